@@ -1,0 +1,41 @@
+-- Any two outcomes that a public function's promise allows at the same arguments coincide.
+use mathlib.Core.Path.{refl}
+use Rattle.auth.proofs as p
+use Rattle.auth.proofs.Said.{authentication-one, confidentiality-one, integrity-one, auth-type-one, privilege-one}
+use Rattle.base.proofs.Unique.{Unique, both, writer}
+
+pub authentication-algorithm-try-from-unique : Unique p.algorithms.AuthenticationAlgorithm.try_from.Kinds.ps p.algorithms.AuthenticationAlgorithm.try_from.Kinds.r p.algorithms.AuthenticationAlgorithm.try_from.Reads.Asked p.algorithms.AuthenticationAlgorithm.try_from.Reads.Learnt
+authentication-algorithm-try-from-unique κs a ok z z′ w w′ q q′ = (authentication-one z z′ (both q q′), refl)
+
+pub authentication-algorithm-value-unique : Unique p.algorithms.AuthenticationAlgorithm.value.Kinds.ps p.algorithms.AuthenticationAlgorithm.value.Kinds.r p.algorithms.AuthenticationAlgorithm.value.Reads.Asked p.algorithms.AuthenticationAlgorithm.value.Reads.Learnt
+authentication-algorithm-value-unique κs a ok z z′ w w′ q q′ = (both q q′, refl)
+
+pub confidentiality-algorithm-try-from-unique : Unique p.algorithms.ConfidentialityAlgorithm.try_from.Kinds.ps p.algorithms.ConfidentialityAlgorithm.try_from.Kinds.r p.algorithms.ConfidentialityAlgorithm.try_from.Reads.Asked p.algorithms.ConfidentialityAlgorithm.try_from.Reads.Learnt
+confidentiality-algorithm-try-from-unique κs a ok z z′ w w′ q q′ = (confidentiality-one z z′ (both q q′), refl)
+
+pub confidentiality-algorithm-value-unique : Unique p.algorithms.ConfidentialityAlgorithm.value.Kinds.ps p.algorithms.ConfidentialityAlgorithm.value.Kinds.r p.algorithms.ConfidentialityAlgorithm.value.Reads.Asked p.algorithms.ConfidentialityAlgorithm.value.Reads.Learnt
+confidentiality-algorithm-value-unique κs a ok z z′ w w′ q q′ = (both q q′, refl)
+
+pub integrity-algorithm-try-from-unique : Unique p.algorithms.IntegrityAlgorithm.try_from.Kinds.ps p.algorithms.IntegrityAlgorithm.try_from.Kinds.r p.algorithms.IntegrityAlgorithm.try_from.Reads.Asked p.algorithms.IntegrityAlgorithm.try_from.Reads.Learnt
+integrity-algorithm-try-from-unique κs a ok z z′ w w′ q q′ = (integrity-one z z′ (both q q′), refl)
+
+pub integrity-algorithm-value-unique : Unique p.algorithms.IntegrityAlgorithm.value.Kinds.ps p.algorithms.IntegrityAlgorithm.value.Kinds.r p.algorithms.IntegrityAlgorithm.value.Reads.Asked p.algorithms.IntegrityAlgorithm.value.Reads.Learnt
+integrity-algorithm-value-unique κs a ok z z′ w w′ q q′ = (both q q′, refl)
+
+pub auth-type-try-from-unique : Unique p.AuthType.try_from.Kinds.ps p.AuthType.try_from.Kinds.r p.AuthType.try_from.Reads.Asked p.AuthType.try_from.Reads.Learnt
+auth-type-try-from-unique κs a ok z z′ w w′ q q′ = (auth-type-one z z′ (both q q′), refl)
+
+pub auth-type-value-unique : Unique p.AuthType.value.Kinds.ps p.AuthType.value.Kinds.r p.AuthType.value.Reads.Asked p.AuthType.value.Reads.Learnt
+auth-type-value-unique κs a ok z z′ w w′ q q′ = (both q q′, refl)
+
+pub auth-type-name-unique : Unique p.AuthType.name.Kinds.ps p.AuthType.name.Kinds.r p.AuthType.name.Reads.Asked p.AuthType.name.Reads.Learnt
+auth-type-name-unique κs a ok z z′ w w′ q q′ = writer q q′
+
+pub auth-type-compare-strength-unique : Unique p.AuthType.compare_strength.Kinds.ps p.AuthType.compare_strength.Kinds.r p.AuthType.compare_strength.Reads.Asked p.AuthType.compare_strength.Reads.Learnt
+auth-type-compare-strength-unique κs a ok z z′ w w′ q q′ = (both q q′, refl)
+
+pub privilege-level-try-from-unique : Unique p.PrivilegeLevel.try_from.Kinds.ps p.PrivilegeLevel.try_from.Kinds.r p.PrivilegeLevel.try_from.Reads.Asked p.PrivilegeLevel.try_from.Reads.Learnt
+privilege-level-try-from-unique κs a ok z z′ w w′ q q′ = (privilege-one z z′ (both q q′), refl)
+
+pub privilege-level-value-unique : Unique p.PrivilegeLevel.value.Kinds.ps p.PrivilegeLevel.value.Kinds.r p.PrivilegeLevel.value.Reads.Asked p.PrivilegeLevel.value.Reads.Learnt
+privilege-level-value-unique κs a ok z z′ w w′ q q′ = (both q q′, refl)

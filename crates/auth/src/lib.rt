@@ -1,0 +1,139 @@
+// The session's messages: the Rust's auth/mod.rs. `try_from` is its TryFrom<u8>, `value` its From for u8, `name` its Debug.
+ghost use mathlib.Core.Path.{_≡_};
+ghost use Rattle.auth.specs.Auth.{authTypeName, authTypeOf, authTypeValue, privilegeOf, privilegeValue, saidAuthType, saidPrivilege, strength};
+ghost use Rattle.base.specs.Choice.{_=?_};
+ghost use Rattle.base.specs.Outcome.{accepted};
+ghost use Rattle.base.specs.Written.{Writes};
+use base::field::bits;
+use base::written::Written;
+use base::written::place;
+
+pub mod algorithms;
+
+pub enum AuthType {
+    None,
+    MD2,
+    MD5,
+    Key,
+}
+
+pub enum AuthTypeAnswer {
+    AuthType(AuthType),
+    Nothing,
+}
+
+// Rust's core::cmp::Ordering.
+pub enum Ordering {
+    Less,
+    Equal,
+    Greater,
+}
+
+impl AuthType {
+    // The whole number counts.
+    pub fn try_from(value: u8) -> AuthTypeAnswer
+        ensures { λ r. ⌜ saidAuthType r ≡ accepted (authTypeOf value) ⌝ }
+    {
+        match value {
+            0 => AuthTypeAnswer::AuthType(AuthType::None),
+            1 => AuthTypeAnswer::AuthType(AuthType::MD2),
+            2 => AuthTypeAnswer::AuthType(AuthType::MD5),
+            4 => AuthTypeAnswer::AuthType(AuthType::Key),
+            _ => AuthTypeAnswer::Nothing,
+        }
+    }
+
+    pub fn value(self) -> u8
+        ensures { λ r. ⌜ r ≡ authTypeValue self ⌝ }
+    {
+        match self {
+            AuthType::None => 0,
+            AuthType::MD2 => 1,
+            AuthType::MD5 => 2,
+            AuthType::Key => 4,
+        }
+    }
+
+    pub fn name(self, out: &mut [u8]) -> Written
+        ensures { λ r. ⌜ Writes (accepted (authTypeName self)) r (now (out .entry)) (now (out .exit)) ⌝ }
+    {
+        match self {
+            AuthType::None => place(b"None", out),
+            AuthType::MD2 => place(b"MD2", out),
+            AuthType::MD5 => place(b"MD5", out),
+            AuthType::Key => place(b"Key", out),
+        }
+    }
+
+    fn is(self, other: Self) -> bool
+        ensures { λ r. ⌜ r ≡ (authTypeValue self =? authTypeValue other) ⌝ }
+    {
+        self.value() == other.value()
+    }
+
+    // Greater: `self` is the stronger.
+    pub fn compare_strength(self, other: Self) -> Ordering
+        ensures { λ r. ⌜ r ≡ strength self other ⌝ }
+    {
+        if self.is(other) {
+            return Ordering::Equal;
+        }
+        if self.is(AuthType::None) {
+            return Ordering::Less;
+        }
+        if other.is(AuthType::None) {
+            return Ordering::Greater;
+        }
+        if self.is(AuthType::Key) {
+            return Ordering::Less;
+        }
+        if other.is(AuthType::Key) {
+            return Ordering::Greater;
+        }
+        if self.is(AuthType::MD2) {
+            return Ordering::Less;
+        }
+        Ordering::Greater
+    }
+}
+
+pub enum PrivilegeLevel {
+    Callback,
+    User,
+    Operator,
+    Administrator,
+    OemProperietary,
+}
+
+pub enum PrivilegeAnswer {
+    Level(PrivilegeLevel),
+    Nothing,
+}
+
+impl PrivilegeLevel {
+    // The low nibble counts.
+    pub fn try_from(value: u8) -> PrivilegeAnswer
+        ensures { λ r. ⌜ saidPrivilege r ≡ accepted (privilegeOf value) ⌝ }
+    {
+        match bits(value, 0, 4) {
+            1 => PrivilegeAnswer::Level(PrivilegeLevel::Callback),
+            2 => PrivilegeAnswer::Level(PrivilegeLevel::User),
+            3 => PrivilegeAnswer::Level(PrivilegeLevel::Operator),
+            4 => PrivilegeAnswer::Level(PrivilegeLevel::Administrator),
+            5 => PrivilegeAnswer::Level(PrivilegeLevel::OemProperietary),
+            _ => PrivilegeAnswer::Nothing,
+        }
+    }
+
+    pub fn value(self) -> u8
+        ensures { λ r. ⌜ r ≡ privilegeValue self ⌝ }
+    {
+        match self {
+            PrivilegeLevel::Callback => 1,
+            PrivilegeLevel::User => 2,
+            PrivilegeLevel::Operator => 3,
+            PrivilegeLevel::Administrator => 4,
+            PrivilegeLevel::OemProperietary => 5,
+        }
+    }
+}

@@ -1,0 +1,4 @@
+pub mod Named
+pub mod Outcome
+pub mod Said
+pub mod Unique

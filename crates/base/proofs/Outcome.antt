@@ -1,0 +1,51 @@
+-- Laws of outcomes.
+use mathlib.Core.Path.{_≡_, refl}
+use mathlib.Core.Bool.{Bool, true, false}
+use mathlib.Core.List.{List, []}
+use Prim.Native.Nat.{ℕ, _≤_}
+use native.Mathlib.Omega.{arith}
+use borrow.Author.Tests.{ltb-false, le-ltb}
+use lib.Dec.{ltb}
+use Rattle.base.specs.Choice.{if_then_else_, if_from_to_then_else_}
+use Rattle.base.specs.Outcome.{Outcome, accepted, refused, _>>=_, faultsAs}
+
+pub apart : {A : Type 0} {a : A} {n : ℕ} {v : List ℕ} → refused n v ≡ accepted a → ⊥
+apart e = let z : _≡_ {A = ℕ} 0 1 = cc in omega arith
+
+-- where two steps are accepted, each is
+pub steps : {A B : Type 0} (x : Outcome A) (next : A → Outcome B) {b : B} → (x >>= next) ≡ accepted b → (a : A) × (x ≡ accepted a) × (next a ≡ accepted b)
+steps (accepted a) next e = (a, refl, e)
+steps (refused n v) next e = absurd (apart e)
+
+-- x is refused by no other number than n
+abbrev pub Only : {A : Type 0} → ℕ → Outcome A → Type 0
+Only n x = faultsAs n x ≡ x
+
+pub only-steps : {A B : Type 0} (n : ℕ) (x : Outcome A) (next : A → Outcome B) → Only n x → ((a : A) → Only n (next a)) → Only n (x >>= next)
+only-steps n (accepted a) next p q = q a
+only-steps n (refused k v) next p q = cc
+
+pub only-refused : {A : Type 0} (n : ℕ) (x : Outcome A) → Only n x → ((a : A) → x ≡ accepted a → ⊥) → x ≡ refused n []
+only-refused n (accepted a) p none = absurd (none a refl)
+only-refused n (refused k v) p none = cc
+
+-- what a range accepts, and that it refuses by its own number
+module _ {A : Type 0} (n first last : ℕ) (a : A) (k : ℕ) where
+  pub inside : first ≤ n → n ≤ last → (if n from first to last then accepted a else refused k []) ≡ accepted a
+  inside p q = simp (le-ltb n first p, le-ltb last n q)
+
+  pub ranged : {b : A} → (if n from first to last then accepted a else refused k []) ≡ accepted b → (first ≤ n) × (n ≤ last) × (a ≡ b)
+  ranged {b} e = go (ltb n first) (ltb last n) refl refl e
+    where
+      go : (x y : Bool) → ltb n first ≡ x → ltb last n ≡ y → (if x then refused k [] else if y then refused k [] else accepted a) ≡ accepted b → (first ≤ n) × (n ≤ last) × (a ≡ b)
+      go true y p q e = absurd (apart e)
+      go false true p q e = absurd (apart e)
+      go false false p q e = (ltb-false n first p, ltb-false last n q, cc)
+
+  pub only-ranged : Only k (if n from first to last then accepted a else refused k [])
+  only-ranged = go (ltb n first) (ltb last n)
+    where
+      go : (x y : Bool) → Only k (if x then refused k [] else if y then refused k [] else accepted a)
+      go true y = refl
+      go false true = refl
+      go false false = refl

@@ -1,0 +1,34 @@
+-- A field of a byte is a position and a width, as a row of the standard's tables.
+use Prim.Native.Nat.{ℕ, _*_, _/_, _%_, _^_}
+use mathlib.Core.Bool.{Bool}
+use mathlib.Core.List.{List, []}
+use lib.ListN.{getD}
+use mir.Val.{boolByte}
+use Rattle.base.specs.Choice.{_=?_, if_from_to_then_else_}
+use Rattle.base.specs.Outcome.{Outcome, accepted, refused}
+use Rattle.base.specs.declared.field.FieldAnswer.{FieldAnswer}
+use Rattle.base.specs.declared.field.FieldAnswer.the-variants.{Number, NoForm}
+
+abbrev pub saidField : FieldAnswer → Outcome ℕ
+saidField (Number n) = accepted n
+saidField NoForm = refused 9 []
+
+-- byte k of a message
+abbrev pub byte : ℕ → List ℕ → ℕ
+byte k message = getD message k 0
+
+-- a number as a field has it: 9 outside the field's range
+abbrev pub within : ℕ → ℕ → ℕ → Outcome ℕ
+within first last n = if n from first to last then accepted n else refused 9 []
+
+-- the `width` bits of a byte from bit `at` up
+abbrev pub bits : ℕ → ℕ → ℕ → ℕ
+bits at width byte = byte / 2 ^ at % 2 ^ width
+
+-- whether bit `at` of a byte is set
+abbrev pub flag : ℕ → ℕ → Bool
+flag at byte = bits at 1 byte =? 1
+
+-- what bit `at`, where it is set, adds to its byte
+abbrev pub raised : ℕ → Bool → ℕ
+raised at flag = boolByte flag * 2 ^ at

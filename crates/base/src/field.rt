@@ -1,0 +1,42 @@
+// A field of a byte is a position and a width, as in the standard's tables.
+ghost use mathlib.Core.Path.{_≡_};
+ghost use Rattle.base.specs.Field.{bits, flag, saidField, within};
+
+// What a value is in its field; `NoForm` where no reading of the field gives that value.
+pub enum FieldAnswer {
+    Number(u8),
+    NoForm,
+}
+
+// The `width` bits of `byte` from bit `at` up.
+pub fn bits(byte: u8, at: u8, width: u8) -> u8
+    ensures { λ r. ⌜ r ≡ bits at width byte ⌝ }
+{
+    if 7 < at {
+        return 0;
+    }
+    if 7 < width {
+        return byte >> at;
+    }
+    (byte >> at) % (1 << width)
+}
+
+// `value`, where it lies in the range of its field.
+pub fn within(value: u8, first: u8, last: u8) -> FieldAnswer
+    ensures { λ r. ⌜ saidField r ≡ within first last value ⌝ }
+{
+    if value < first {
+        return FieldAnswer::NoForm;
+    }
+    if last < value {
+        return FieldAnswer::NoForm;
+    }
+    FieldAnswer::Number(value)
+}
+
+// Whether bit `at` of `byte` is set.
+pub fn flag(byte: u8, at: u8) -> bool
+    ensures { λ r. ⌜ r ≡ flag at byte ⌝ }
+{
+    bits(byte, at, 1) == 1
+}

@@ -1,0 +1,6 @@
+// What every message speaks: refusals, fields of a byte, writing into a lent buffer, texts, channels.
+pub mod connection;
+pub mod field;
+pub mod refusal;
+pub mod text;
+pub mod written;

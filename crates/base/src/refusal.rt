@@ -1,0 +1,44 @@
+// The refusals of document 01, by the names it gives them.
+ghost use mathlib.Core.Path.{_≡_};
+ghost use Rattle.base.specs.Refusal.{row};
+
+pub enum Refusal {
+    NotEnoughData,
+    TooMuchData,
+    InvalidZeroSession,
+    InvalidAuthType(u8),
+    InvalidPrivilegeLevel(u8),
+    NoChannel,
+    BadIndex,
+    LongName,
+    NoForm,
+    NotARequest,
+    NoRoom,
+    Disagrees,
+    Incomplete(u8),
+    BadLine,
+}
+
+impl Refusal {
+    // The number in document 01's table.
+    pub fn number(self) -> u8
+        ensures { λ r. ⌜ r ≡ row self .0 ⌝ }
+    {
+        match self {
+            Refusal::NotEnoughData => 1,
+            Refusal::TooMuchData => 2,
+            Refusal::InvalidZeroSession => 3,
+            Refusal::InvalidAuthType(_) => 4,
+            Refusal::InvalidPrivilegeLevel(_) => 5,
+            Refusal::NoChannel => 6,
+            Refusal::BadIndex => 7,
+            Refusal::LongName => 8,
+            Refusal::NoForm => 9,
+            Refusal::NotARequest => 10,
+            Refusal::NoRoom => 11,
+            Refusal::Disagrees => 12,
+            Refusal::Incomplete(_) => 13,
+            Refusal::BadLine => 14,
+        }
+    }
+}

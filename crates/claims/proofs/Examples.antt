@@ -1,0 +1,29 @@
+-- Document 01, "Examples at the edges", those marked P: rows of a table under one claim.
+use mathlib.Core.Path.{_≡_, refl}
+use mathlib.Core.List.{List, [], _∷_, map}
+use Rattle.base.specs.Connection.{channelOf}
+use Rattle.base.specs.Outcome.{accepted, refused}
+use Rattle.base.specs.declared.connection.Channel.the-variants.{Current, Numbered}
+
+infix 5 _gives_
+pub record Row : Type 1 where
+  pub of : Type 0
+  pub what : of
+  pub answer : of
+
+abbrev _gives_ : {A : Type 0} → A → A → Row
+_gives_ {A} what answer = record { of = A; what = what; answer = answer }
+
+pub examples : List Row
+examples =
+    -- P1
+    (channelOf 0x0B gives accepted (Numbered (record { 0 = 0x0B })))
+    ∷ (channelOf 0x0C gives refused 6 [])
+    -- P2
+    ∷ (channelOf 0x0E gives accepted Current)
+    ∷ (channelOf 0x10 gives refused 6 [])
+    ∷ []
+
+pub examples-hold : map (λ (r : Row). r .what gives r .what) examples ≡ map (λ (r : Row). r .what gives r .answer) examples
+unfolding examples
+examples-hold = refl

@@ -1,0 +1,1 @@
+// Claims over all crates' definitions; no code.
