@@ -1,5 +1,6 @@
 -- Laws of outcomes.
-use mathlib.Core.Path.{_≡_, refl}
+use mathlib.Core.Logic.{_↔_}
+use mathlib.Core.Path.{_≡_, refl, sym, _∙_}
 use mathlib.Core.Bool.{Bool, true, false}
 use mathlib.Core.List.{List, []}
 use Prim.Native.Nat.{ℕ, _≤_}
@@ -28,6 +29,11 @@ only-steps n (refused k v) next p q = cc
 pub only-refused : {A : Type 0} (n : ℕ) (x : Outcome A) → Only n x → ((a : A) → x ≡ accepted a → ⊥) → x ≡ refused n []
 only-refused n (accepted a) p none = absurd (none a refl)
 only-refused n (refused k v) p none = cc
+
+-- Refusal 9, exactly where nothing that is read gives the record: `Gives s` says that s does.
+pub no-form : (write : Outcome (List ℕ)) (Gives : List ℕ → Type 0) → Only 9 write → ((s : List ℕ) → write ≡ accepted s → Gives s)
+    → ((s : List ℕ) → Gives s → (t : List ℕ) × (write ≡ accepted t)) → write ≡ refused 9 [] ↔ ((s : List ℕ) → Gives s → ⊥)
+no-form write Gives only back given = ((λ e s g. apart (sym e ∙ given s g .1)), λ none. only-refused 9 write only λ s e. none s (back s e))
 
 -- what a range accepts, and that it refuses by its own number
 module _ {A : Type 0} (n first last : ℕ) (a : A) (k : ℕ) where

@@ -28,6 +28,11 @@ pub writer : {message : Outcome (List ℕ)} {r r′ : Written} {before after aft
     → (r ≡ r′) × (_≡_ {A = Unit {0} × (List ℕ × Unit {0})} (tt, (after, tt)) (tt, (after′, tt)))
 writer {r} {r′} q q′ = (written-one r r′ (both (q .answers) (q′ .answers)), ap (λ x. (tt, (x, tt))) (both (q .leaves) (q′ .leaves)))
 
+-- a writer, whose buffer is the third of three
+pub writer3 : {message : Outcome (List ℕ)} {r r′ : Written} {before after after′ : List ℕ} → Writes message r before after → Writes message r′ before after′
+    → (r ≡ r′) × (_≡_ {A = Unit {0} × (Unit {0} × (List ℕ × Unit {0}))} (tt, (tt, (after, tt))) (tt, (tt, (after′, tt))))
+writer3 {r} {r′} q q′ = (written-one r r′ (both (q .answers) (q′ .answers)), ap (λ x. (tt, (tt, (x, tt)))) (both (q .leaves) (q′ .leaves)))
+
 pub bits-unique : Unique p.field.bits.Kinds.ps p.field.bits.Kinds.r p.field.bits.Reads.Asked p.field.bits.Reads.Learnt
 bits-unique κs a ok z z′ w w′ q q′ = (both q q′, refl)
 
@@ -37,14 +42,20 @@ flag-unique κs a ok z z′ w w′ q q′ = (both q q′, refl)
 pub within-unique : Unique p.field.within.Kinds.ps p.field.within.Kinds.r p.field.within.Reads.Asked p.field.within.Reads.Learnt
 within-unique κs a ok z z′ w w′ q q′ = (field-one z z′ (both q q′), refl)
 
+pub number3-unique : Unique p.little.number3.Kinds.ps p.little.number3.Kinds.r p.little.number3.Reads.Asked p.little.number3.Reads.Learnt
+number3-unique κs a ok z z′ w w′ q q′ = (both q q′, refl)
+
 pub refusal-number-unique : Unique p.refusal.Refusal.number.Kinds.ps p.refusal.Refusal.number.Kinds.r p.refusal.Refusal.number.Reads.Asked p.refusal.Refusal.number.Reads.Learnt
 refusal-number-unique κs a ok z z′ w w′ q q′ = (both q q′, refl)
 
 pub digit-unique : Unique p.text.digit.Kinds.ps p.text.digit.Kinds.r p.text.digit.Reads.Asked p.text.digit.Reads.Learnt
 digit-unique κs a ok z z′ w w′ q q′ = (both q q′, refl)
 
-pub unknown-unique : Unique p.text.unknown.Kinds.ps p.text.unknown.Kinds.r p.text.unknown.Reads.Asked p.text.unknown.Reads.Learnt
-unknown-unique κs a ok z z′ w w′ q q′ = writer q q′
+pub coded-unique : Unique p.text.coded.Kinds.ps p.text.coded.Kinds.r p.text.coded.Reads.Asked p.text.coded.Reads.Learnt
+coded-unique κs a ok z z′ w w′ q q′ = writer3 q q′
+
+pub join-unique : Unique p.written.join.Kinds.ps p.written.join.Kinds.r p.written.join.Reads.Asked p.written.join.Reads.Learnt
+join-unique κs a ok z z′ w w′ q q′ = writer3 q q′
 
 pub place-unique : Unique p.written.place.Kinds.ps p.written.place.Kinds.r p.written.place.Reads.Asked p.written.place.Reads.Learnt
 place-unique κs a ok z z′ w w′ q q′ = writer q q′

@@ -1,6 +1,7 @@
 pub mod Choice
 pub mod Connection
 pub mod Field
+pub mod Little
 pub mod Named
 pub mod Outcome
 pub mod Refusal

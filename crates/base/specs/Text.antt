@@ -22,6 +22,6 @@ hex2 n = digit (n / 16) ∷ digit n ∷ []
 abbrev pub hex1 : ℕ → List ℕ
 hex1 n = if n <? 16 then digit n ∷ [] else hex2 n
 
--- a value that has no name
-abbrev pub unknown : ℕ → List ℕ
-unknown n = ascii "Unknown (0x" ++ hex2 n ++ ascii ")"
+-- a value that has no name of its own, as Unknown (0x2A)
+abbrev pub coded : List ℕ → ℕ → List ℕ
+coded name n = name ++ (ascii " (0x" ++ hex2 n ++ ascii ")")

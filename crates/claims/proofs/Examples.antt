@@ -4,6 +4,8 @@ use mathlib.Core.List.{List, [], _∷_, map}
 use Rattle.base.specs.Connection.{channelOf}
 use Rattle.base.specs.Outcome.{accepted, refused}
 use Rattle.base.specs.declared.connection.Channel.the-variants.{Current, Numbered}
+use Rattle.channel.specs.GetChannelAccess.{command, commandBytes}
+use Rattle.channel.specs.declared.get_channel_access.ChannelAccessType.the-variants.{NonVolatile}
 
 infix 5 _gives_
 pub record Row : Type 1 where
@@ -22,6 +24,8 @@ examples =
     -- P2
     ∷ (channelOf 0x0E gives accepted Current)
     ∷ (channelOf 0x10 gives refused 6 [])
+    -- P5
+    ∷ (commandBytes (command Current NonVolatile) gives accepted (0x0E ∷ 0x40 ∷ []))
     ∷ []
 
 pub examples-hold : map (λ (r : Row). r .what gives r .what) examples ≡ map (λ (r : Row). r .what gives r .answer) examples

@@ -1,5 +1,7 @@
 //! The form of a question: a word, then hex pairs, one space before each.
 
+use crate::bytes;
+
 /// Questions that are refused for their form.
 pub fn questions(list: &mut Vec<String>) {
     let bad = [
@@ -15,13 +17,12 @@ pub fn questions(list: &mut Vec<String>) {
     list.extend(bad.map(String::from));
 }
 
-/// Writes a question; pairs are in upper case.
+/// Writes a question.
 pub fn write(word: &str, data: &[u8]) -> String {
-    let mut line = word.to_string();
-    for byte in data {
-        line.push_str(&format!(" {byte:02X}"));
+    if data.is_empty() {
+        return word.to_string();
     }
-    line
+    format!("{word} {}", bytes::hex(data))
 }
 
 /// Takes a question apart. Which words there are, and how many pairs each of

@@ -4,6 +4,8 @@
 // gives the modules `app` and `connection`.
 include!(concat!(env!("OUT_DIR"), "/core/lib.rs"));
 
+mod bytes;
+mod channel;
 mod form;
 mod leaves;
 
@@ -14,6 +16,7 @@ pub fn questions() -> Vec<String> {
     let mut list = Vec::new();
     leaves::questions(&mut list);
     form::questions(&mut list);
+    channel::questions(&mut list);
     list
 }
 
@@ -29,5 +32,5 @@ pub fn answer(line: &[u8]) -> String {
 /// Asks the groups in turn; none of them knows a bad question.
 fn ask(line: &[u8]) -> Option<String> {
     let (word, data) = form::read(line)?;
-    leaves::answer(word, &data)
+    leaves::answer(word, &data).or_else(|| channel::answer(word, &data))
 }

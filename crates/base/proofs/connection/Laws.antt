@@ -1,6 +1,7 @@
 -- Laws of channels.
 use mathlib.Core.Logic.{_↔_}
-use mathlib.Core.Path.{_≡_, refl}
+use mathlib.Core.Path.{_≡_, refl, sym}
+use mathlib.Core.List.{List, []}
 use mathlib.Core.Bool.{Bool, true, false}
 use mathlib.Core.Option.{none, some}
 use Prim.Native.Nat.{ℕ, _≤_, _<_}
@@ -10,13 +11,13 @@ use lib.Dec.{eqb}
 use Rattle.base.specs.Choice.{if_then_else_}
 use Rattle.base.specs.Connection.{channelOf, channelNumberOf, channelField, valueOf, units, unitOf, unitValue}
 use Rattle.base.specs.Field.{bits}
-use Rattle.base.specs.Outcome.{accepted, _>>=_}
+use Rattle.base.specs.Outcome.{Outcome, accepted, refused, _>>=_}
 use Rattle.base.specs.declared.connection.Channel.{Channel}
 use Rattle.base.specs.declared.connection.Channel.the-variants.{Primary, Numbered, Current, System}
 use Rattle.base.specs.declared.connection.LogicalUnit.{LogicalUnit}
 use Rattle.base.specs.declared.connection.LogicalUnit.the-variants.{Zero, One, Two, Three}
 use Rattle.base.proofs.Named.{nothing, name-iff}
-use Rattle.base.proofs.Outcome.{steps, inside, ranged}
+use Rattle.base.proofs.Outcome.{apart, steps, Only, only-steps, only-refused, inside, ranged, only-ranged}
 
 made : (n : ℕ) (c : Channel) → channelOf n ≡ accepted c → channelField c ≡ accepted n
 made n c e = go (eqb n 0) (eqb n 0xE) (eqb n 0xF) refl refl refl e
@@ -57,6 +58,31 @@ value-new n c e = go c (made n c e)
 -- and `Channel::new` makes again every channel that a number makes
 pub new-value : (n : ℕ) (c : Channel) → channelOf n ≡ accepted c → channelOf (valueOf c) ≡ accepted c
 new-value n c e = rw (value-new n c e) e
+
+channel-only : (c : Channel) → Only 9 (channelField c)
+channel-only Primary = refl
+channel-only (Numbered k) = only-ranged (k .0) 1 0xB (k .0) 9
+channel-only Current = refl
+channel-only System = refl
+
+-- a channel's number has four bits
+pub channel-small : (c : Channel) (n : ℕ) → channelField c ≡ accepted n → n < 16
+channel-small Primary n e = let z : 0 ≡ n = cc in omega arith
+channel-small (Numbered k) n e = let w = ranged (k .0) 1 0xB (k .0) 9 e in omega arith
+channel-small Current n e = let z : 0xE ≡ n = cc in omega arith
+channel-small System n e = let z : 0xF ≡ n = cc in omega arith
+
+-- A message that begins with a channel is refused by 9 alone, and exactly where no number makes the channel.
+module _ (c : Channel) (message : ℕ → Outcome (List ℕ)) (rest : (n : ℕ) → Only 9 (message n)) where
+  pub begins-only : Only 9 (channelField c >>= message)
+  begins-only = only-steps 9 (channelField c) message (channel-only c) rest
+
+pub no-channel-form : (c : Channel) (message : ℕ → List ℕ) → (channelField c >>= λ n. accepted (message n)) ≡ refused 9 [] ↔ ((n : ℕ) → channelOf n ≡ accepted c → ⊥)
+no-channel-form c message = (
+  (λ e n h. apart (sym (rw (channel-iff n c .0 h) at e))),
+  λ none. only-refused 9 (channelField c >>= λ n. accepted (message n)) (begins-only c (λ n. accepted (message n)) (λ n. refl))
+      λ s e. let (n, f, g) = steps (channelField c) (λ n. accepted (message n)) e in none n (channel-iff n c .1 f),
+)
 
 -- Units.
 

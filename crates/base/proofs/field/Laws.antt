@@ -10,9 +10,8 @@ use lib.Bits.{bitOr, or-shifted-r}
 use native.Mathlib.Nat.{add-comm, div-eq-of-lt, mod-eq-of-lt, zero-mod, one-mul, lt-of-lt-of-le, lt-of-le-of-lt}
 use native.Mathlib.Omega.{arith}
 use lib.Pow.{pow-mono, pow-lt, pow-pos, shr-le, shl-exact}
-use Rattle.base.specs.Field.{bits, raised, within}
-use Rattle.base.specs.Outcome.{Outcome, accepted}
-use Rattle.base.proofs.Outcome.{inside}
+use Rattle.base.specs.Field.{bits, raised}
+use Rattle.base.specs.Outcome.{accepted}
 
 -- a byte has no bit above 7
 pub past : (at width byte : ℕ) → byte < 256 → 7 < at → 0 ≡ bits at width byte
@@ -36,12 +35,12 @@ bit-small true = lit< tt
 pub set-bit : (at x : ℕ) (b : Bool) → at ≤ 7 → x < 2 ^ at → bitOr x (boolByte b * 2 ^ at % 256) ≡ x + raised at b
 set-bit at x b h p = rw (shl-exact {a = boolByte b} 1 at 8 (bit-small b) (omega arith)) (or-shifted-r (boolByte b) at x p ∙ add-comm (raised at b) x)
 
--- f at each number below k, for a claim on all of them by one computed test
+-- f at each number below k, for a claim on all of them by one computed test, as that each number of a field, once read, is written again
 abbrev pub upTo : {A : Type 0} → ℕ → (ℕ → A) → List A
 upTo zero f = []
 upTo (suc k) f = f k ∷ upTo k f
 
-below : {A : Type 0} (k : ℕ) (f g : ℕ → A) → upTo k f ≡ upTo k g → (n : ℕ) → n < k → f n ≡ g n
+pub below : {A : Type 0} (k : ℕ) (f g : ℕ → A) → upTo k f ≡ upTo k g → (n : ℕ) → n < k → f n ≡ g n
 below zero f g e n h = absurd (omega arith)
 below (suc k) f g e n h = go (ltb n k) refl (below k f g (cc) n)
   where
@@ -49,11 +48,15 @@ below (suc k) f g e n h = go (ltb n k) refl (below k f g (cc) n)
     go true p lower = lower (ltb-true n k p)
     go false p lower = let l = ltb-false n k p in let z : n ≡ k = omega arith in rw z (cc)
 
--- a field whose numbers below k have names: each number up to the last, once read, is written again
-pub given : {A : Type 0} (read : ℕ → A) (field : A → Outcome ℕ) (k last : ℕ) → upTo k (λ n. field (read n)) ≡ upTo k accepted
-    → ((n : ℕ) → k ≤ n → field (read n) ≡ within k last n) → (n : ℕ) → n ≤ last → field (read n) ≡ accepted n
-given read field k last names others n h = go (ltb n k) refl
-  where
-    go : (x : Bool) → ltb n k ≡ x → field (read n) ≡ accepted n
-    go true p = below k (λ n. field (read n)) accepted names n (ltb-true n k p)
-    go false p = let l = ltb-false n k p in others n l ∙ inside n k last n 9 l h
+-- n is none of the numbers below k: what the last arm of a match on 0, 1, .. knows
+abbrev pub NoneOf : ℕ → ℕ → Type 0
+NoneOf n zero = Unit {0}
+NoneOf n (suc k) = NoneOf n k × (n ≡ k → ⊥)
+
+pub none-of : (n k : ℕ) → NoneOf n k → k ≤ n
+none-of n zero p = omega arith
+none-of n (suc k) p = let h = none-of n k (p .0) in let ne = p .1 in omega arith
+
+-- k is the number of m, and so is n
+pub same : {A : Type 0} (read : ℕ → A) (bound k n : ℕ) {m : A} → k < bound → read k ≡ m → accepted k ≡ accepted n → (n < bound) × (read n ≡ m)
+same read bound k n h g e = let z : k ≡ n = cc in rw (← z) (h, g)

@@ -1,14 +1,14 @@
 use borrow.Author.Needs.{needs}
-use Rattle.base.proofs.text.unknown.Statement.{statement}
-use Rattle.base.proofs.text.unknown.Tie as tie
+use Rattle.base.proofs.text.coded.Statement.{statement}
+use Rattle.base.proofs.text.coded.Tie as tie
 
 returns : tie.Need-returns
 returns c =
     let d = c .before .before .before .before .before in
-    rw (← d .before .digit .ensures, ← d .digit2 .ensures) (c .before .before .place .ensures)
+    rw (← d .before .digit .ensures, ← d .digit2 .ensures) (c .before .before .join .ensures)
 
-pub unknown-spec : {M : Type 1} → statement M
-unknown-spec =
+pub coded-spec : {M : Type 1} → statement M
+coded-spec =
     tie.close
     (tie.spec
     (search needs)

@@ -1,0 +1,42 @@
+-- Laws of numbers of several bytes, at any width.
+use mathlib.Core.Path.{_≡_, refl}
+use mathlib.Core.List.{List, [], _∷_, _++_}
+use Prim.Native.Nat.{ℕ, zero, suc, _+_, _*_, _/_, _%_, _^_, _<_}
+use native.Mathlib.Nat.{pow-suc, div-lt-iff-lt-mul}
+use native.Mathlib.Omega.{arith}
+use lib.Dec.{lit<}
+use lib.ListN.{length, getD}
+use Rattle.base.specs.Little.{little, littleBytes}
+
+-- a number that fits comes back from its bytes
+pub number-back : (width n : ℕ) → n < 256 ^ width → little (littleBytes width n) ≡ n
+number-back zero n h = let z : n < 1 = h in omega arith
+number-back (suc width) n h = rw (number-back width (n / 256) (div-lt-iff-lt-mul (lit< tt) .1 (rw pow-suc at h))) (omega arith)
+
+-- every element is a byte
+abbrev pub Bytes : List ℕ → Type 0
+Bytes [] = Unit {0}
+Bytes (byte ∷ bytes) = (byte < 256) × Bytes bytes
+
+-- bytes come back from their number
+pub bytes-back : (bytes : List ℕ) → Bytes bytes → littleBytes (length bytes) (little bytes) ≡ bytes
+bytes-back [] h = refl
+bytes-back (byte ∷ bytes) h =
+    let low : (byte + 256 * little bytes) % 256 ≡ byte = omega arith in
+    let rest : (byte + 256 * little bytes) / 256 ≡ little bytes = omega arith in
+    rw (low, rest, bytes-back bytes (h .1))
+
+-- and their number fits
+pub number-fits : (bytes : List ℕ) → Bytes bytes → little bytes < 256 ^ length bytes
+number-fits [] h = lit< tt
+number-fits (byte ∷ bytes) h = let l = number-fits bytes (h .1) in rw pow-suc (omega arith)
+
+-- a byte at any place; past the end it is 0
+pub a-byte : (bytes : List ℕ) → Bytes bytes → (k : ℕ) → getD bytes k 0 < 256
+a-byte [] h k = lit< tt
+a-byte (byte ∷ bytes) h zero = h .0
+a-byte (byte ∷ bytes) h (suc k) = a-byte bytes (h .1) k
+
+pub bytes-are : (width n : ℕ) (rest : List ℕ) → Bytes rest → Bytes (littleBytes width n ++ rest)
+bytes-are zero n rest h = h
+bytes-are (suc width) n rest h = (omega arith, bytes-are width (n / 256) rest h)

@@ -1,0 +1,144 @@
+-- Get Channel Access. Document 01, "Access"; IPMI 2.0, Table 22-28.
+use Prim.Native.Nat.{ℕ, _+_}
+use mathlib.Core.Bool.{Bool, true, false}
+use mathlib.Core.List.{List, [], _∷_}
+use lib.ListN.{length, getD}
+use Rattle.base.specs.Choice.{if_then_else_, _<?_, _=?_}
+use Rattle.base.specs.Connection.{channelOf, channelField}
+use Rattle.base.specs.Field.{byte, bits, flag, raised, within}
+use Rattle.base.specs.Outcome.{Outcome, accepted, refused, _>>=_, faultsAs}
+use Rattle.base.specs.Refusal.{refusal}
+use Rattle.base.specs.Text.{ascii, coded}
+use Rattle.base.specs.declared.connection.Channel.{Channel}
+use Rattle.channel.specs.declared.get_channel_access.AccessAnswer.{AccessAnswer}
+use Rattle.channel.specs.declared.get_channel_access.AccessAnswer.the-variants.{Access, NotEnoughData}
+use Rattle.channel.specs.declared.get_channel_access.ChannelAccess.{ChannelAccess}
+use Rattle.channel.specs.declared.get_channel_access.ChannelAccessMode.{ChannelAccessMode}
+use Rattle.channel.specs.declared.get_channel_access.ChannelAccessMode.the-variants as Mode
+use Rattle.channel.specs.declared.get_channel_access.ChannelAccessType.{ChannelAccessType}
+use Rattle.channel.specs.declared.get_channel_access.ChannelAccessType.the-variants.{NonVolatile, Volatile}
+use Rattle.channel.specs.declared.get_channel_access.ChannelPrivilegeLevel.{ChannelPrivilegeLevel}
+use Rattle.channel.specs.declared.get_channel_access.ChannelPrivilegeLevel.the-variants as Level
+use Rattle.channel.specs.declared.get_channel_access.CommandAnswer.{CommandAnswer}
+use Rattle.channel.specs.declared.get_channel_access.CommandAnswer.the-variants.{Command, Refused}
+use Rattle.channel.specs.declared.get_channel_access.GetChannelAccess.{GetChannelAccess}
+
+abbrev pub saidCommand : CommandAnswer → Outcome GetChannelAccess
+saidCommand (Command command) = accepted command
+saidCommand (Refused r) = refusal r
+
+abbrev pub saidAccess : AccessAnswer → Outcome ChannelAccess
+saidAccess (Access access) = accepted access
+saidAccess NotEnoughData = refused 1 []
+
+-- The request: byte 0 is the channel, byte 1 which settings.
+
+abbrev pub typeOf : ℕ → Outcome ChannelAccessType
+typeOf n =
+    if n =? 0x40 then accepted NonVolatile else
+    if n =? 0x80 then accepted Volatile else refused 10 []
+
+abbrev pub typeByte : ChannelAccessType → ℕ
+typeByte NonVolatile = 0x40
+typeByte Volatile = 0x80
+
+abbrev pub command : Channel → ChannelAccessType → GetChannelAccess
+command channel kind = record { channel = channel; «access_type» = kind }
+
+-- made for a channel that is given as a number
+abbrev pub commandFor : ℕ → ChannelAccessType → Outcome GetChannelAccess
+commandFor number kind = do
+  channel ← channelOf number
+  accepted (command channel kind)
+
+abbrev pub commandBytes : GetChannelAccess → Outcome (List ℕ)
+commandBytes c = do
+  channel ← channelField (c .channel)
+  accepted (channel ∷ typeByte (c .«access_type») ∷ [])
+
+-- "a request reader turns every fault into 10"
+abbrev pub commandOf : List ℕ → Outcome GetChannelAccess
+commandOf request =
+    if length request =? 2 then faultsAs 10 (do
+      channel ← channelOf (byte 0 request)
+      kind ← typeOf (byte 1 request)
+      accepted (command channel kind))
+    else refused 10 []
+
+-- The response: byte 0 has the mode and three flags, byte 1 the limit.
+
+-- from 0 up, Table 6-4
+abbrev pub modes : List ChannelAccessMode
+modes = Mode.Disabled ∷ Mode.PreBootOnly ∷ Mode.AlwaysAvailable ∷ Mode.Shared ∷ []
+
+abbrev pub modeOf : ℕ → ChannelAccessMode
+modeOf n = getD modes n (Mode.Unknown n)
+
+-- from 0 up
+abbrev pub limits : List ChannelPrivilegeLevel
+limits = Level.Reserved ∷ Level.Callback ∷ Level.User ∷ Level.Operator ∷ Level.Administrator ∷ Level.Oem ∷ []
+
+abbrev pub limitOf : ℕ → ChannelPrivilegeLevel
+limitOf n = getD limits n (Level.Unknown n)
+
+-- bits 5, 4 and 3 say what is DISABLED
+abbrev pub accessFields : ℕ → ℕ → ChannelAccess
+accessFields first second =
+    record {
+      «access_mode» = modeOf (bits 0 3 first);
+      «alerting_disabled» = flag 5 first;
+      «per_msg_auth_disabled» = flag 4 first;
+      «user_level_auth_disabled» = flag 3 first;
+      «privilege_level_limit» = limitOf (bits 0 4 second);
+    }
+
+abbrev pub accessOf : List ℕ → Outcome ChannelAccess
+accessOf response =
+    if length response <? 2 then refused 1 [] else
+    accepted (accessFields (byte 0 response) (byte 1 response))
+
+-- what the field of a message has for a mode: 9 where no reading of the field gives it
+abbrev pub modeField : ChannelAccessMode → Outcome ℕ
+modeField Mode.Disabled = accepted 0
+modeField Mode.PreBootOnly = accepted 1
+modeField Mode.AlwaysAvailable = accepted 2
+modeField Mode.Shared = accepted 3
+modeField (Mode.Unknown n) = within 4 7 n
+
+abbrev pub limitField : ChannelPrivilegeLevel → Outcome ℕ
+limitField Level.Reserved = accepted 0
+limitField Level.Callback = accepted 1
+limitField Level.User = accepted 2
+limitField Level.Operator = accepted 3
+limitField Level.Administrator = accepted 4
+limitField Level.Oem = accepted 5
+limitField (Level.Unknown n) = within 6 15 n
+
+abbrev pub accessBytes : ChannelAccess → Outcome (List ℕ)
+accessBytes a = do
+  mode ← modeField (a .«access_mode»)
+  limit ← limitField (a .«privilege_level_limit»)
+  accepted ((mode + raised 3 (a .«user_level_auth_disabled») + raised 4 (a .«per_msg_auth_disabled») + raised 5 (a .«alerting_disabled»)) ∷ limit ∷ [])
+
+abbrev pub isDisabled : ChannelAccessMode → Bool
+isDisabled Mode.Disabled = true
+isDisabled Mode.PreBootOnly = false
+isDisabled Mode.AlwaysAvailable = false
+isDisabled Mode.Shared = false
+isDisabled (Mode.Unknown n) = false
+
+abbrev pub modeText : ChannelAccessMode → List ℕ
+modeText Mode.Disabled = ascii "Disabled"
+modeText Mode.PreBootOnly = ascii "Pre-boot Only"
+modeText Mode.AlwaysAvailable = ascii "Always Available"
+modeText Mode.Shared = ascii "Shared"
+modeText (Mode.Unknown n) = coded (ascii "Unknown") n
+
+abbrev pub limitText : ChannelPrivilegeLevel → List ℕ
+limitText Level.Reserved = ascii "Reserved"
+limitText Level.Callback = ascii "Callback"
+limitText Level.User = ascii "User"
+limitText Level.Operator = ascii "Operator"
+limitText Level.Administrator = ascii "Administrator"
+limitText Level.Oem = ascii "OEM"
+limitText (Level.Unknown n) = coded (ascii "Unknown") n

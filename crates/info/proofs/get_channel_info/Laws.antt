@@ -1,0 +1,284 @@
+-- Laws of Get Channel Info.
+use mathlib.Core.Logic.{_↔_}
+use mathlib.Core.Path.{_≡_, refl}
+use mathlib.Core.Bool.{Bool, true, false}
+use mathlib.Core.List.{List, [], _∷_, _++_}
+use Prim.Native.Nat.{ℕ, _+_, _*_, _≤_, _<_}
+use native.Mathlib.Omega.{arith}
+use borrow.Author.Tests.{eqb-true, lt-ltb, le-ltb}
+use lib.Dec.{eqb, ltb, lit<}
+use lib.ListN.{length, List·getD-eq-default}
+use Rattle.base.specs.Choice.{if_then_else_, if_from_to_then_else_}
+use Rattle.base.specs.Connection.{channelOf, channelField}
+use Rattle.base.specs.Field.{bits, byte, within}
+use Rattle.base.specs.Little.{little, littleBytes}
+use Rattle.base.specs.Outcome.{Outcome, accepted, refused, _>>=_, faultsAs}
+use Rattle.base.specs.declared.connection.Channel.{Channel}
+use Rattle.base.proofs.Outcome.{apart, steps, Only, only-steps, no-form, inside, ranged, only-ranged}
+use Rattle.base.proofs.connection.Laws.{channel-iff, channel-small, begins-only, no-channel-form}
+use Rattle.base.proofs.field.Laws.{below, same}
+use Rattle.base.proofs.little.Laws.{Bytes, a-byte, bytes-are, number-back}
+use Rattle.info.specs.GetChannelInfo.{command, commandBytes, commandOf, infoBytes, infoFields, infoOf, mediums, mediumField, mediumOf, protocols, protocolField, protocolOf, sessions, sessionField, sessionOf}
+use Rattle.info.specs.declared.get_channel_info.ChannelInfo.{ChannelInfo}
+use Rattle.info.specs.declared.get_channel_info.ChannelMediumType.{ChannelMediumType}
+use Rattle.info.specs.declared.get_channel_info.ChannelMediumType.the-variants as Medium
+use Rattle.info.specs.declared.get_channel_info.ChannelProtocolType.{ChannelProtocolType}
+use Rattle.info.specs.declared.get_channel_info.ChannelProtocolType.the-variants as Protocol
+use Rattle.info.specs.declared.get_channel_info.ChannelSessionSupport.{ChannelSessionSupport}
+use Rattle.info.specs.declared.get_channel_info.ChannelSessionSupport.the-variants as Session
+use Rattle.info.specs.declared.get_channel_info.GetChannelInfo.{GetChannelInfo}
+
+-- Numbers past the tables of names.
+
+module _ (n : ℕ) (past : 0x0D ≤ n) where
+  medium-other : mediumOf n ≡ (if n from 0x60 to 0x7F then Medium.Oem n else Medium.ReservedValue n)
+  medium-other = List·getD-eq-default mediums _ past
+
+  pub medium-oem : 0x60 ≤ n → n ≤ 0x7F → mediumOf n ≡ Medium.Oem n
+  medium-oem l h = rw medium-other (simp (le-ltb n 0x60 l, le-ltb 0x7F n h))
+
+  pub medium-low : n < 0x60 → mediumOf n ≡ Medium.ReservedValue n
+  medium-low h = rw medium-other (simp (lt-ltb n 0x60 h))
+
+  pub medium-high : 0x7F < n → mediumOf n ≡ Medium.ReservedValue n
+  medium-high h = rw medium-other (simp (le-ltb n 0x60 (omega arith), lt-ltb 0x7F n h))
+
+module _ (n : ℕ) (past : 0x0A ≤ n) where
+  protocol-other : protocolOf n ≡ (if n from 0x1C to 0x1F then Protocol.Oem n else Protocol.ReservedValue n)
+  protocol-other = List·getD-eq-default protocols _ past
+
+  pub protocol-oem : 0x1C ≤ n → n ≤ 0x1F → protocolOf n ≡ Protocol.Oem n
+  protocol-oem l h = rw protocol-other (simp (le-ltb n 0x1C l, le-ltb 0x1F n h))
+
+  pub protocol-low : n < 0x1C → protocolOf n ≡ Protocol.ReservedValue n
+  protocol-low h = rw protocol-other (simp (lt-ltb n 0x1C h))
+
+  pub protocol-high : 0x1F < n → protocolOf n ≡ Protocol.ReservedValue n
+  protocol-high h = rw protocol-other (simp (le-ltb n 0x1C (omega arith), lt-ltb 0x1F n h))
+
+pub session-other : (n : ℕ) → 4 ≤ n → sessionOf n ≡ Session.Reserved n
+session-other n h = List·getD-eq-default sessions (Session.Reserved n) h
+
+-- A number that is read is written again, and what is written is read again.
+
+medium-given : (n : ℕ) → n < 0x80 → mediumField (mediumOf n) ≡ accepted n
+medium-given = below 0x80 (λ n. mediumField (mediumOf n)) accepted refl
+
+protocol-given : (n : ℕ) → n < 0x20 → protocolField (protocolOf n) ≡ accepted n
+protocol-given = below 0x20 (λ n. protocolField (protocolOf n)) accepted refl
+
+session-given : (n : ℕ) → n < 4 → sessionField (sessionOf n) ≡ accepted n
+session-given = below 4 (λ n. sessionField (sessionOf n)) accepted refl
+
+medium-back : (m : ChannelMediumType) (n : ℕ) → mediumField m ≡ accepted n → (n < 0x80) × (mediumOf n ≡ m)
+medium-back Medium.Reserved n e = same mediumOf 0x80 0 n (lit< tt) refl e
+medium-back Medium.Ipmb n e = same mediumOf 0x80 1 n (lit< tt) refl e
+medium-back Medium.IcmbV1_0 n e = same mediumOf 0x80 2 n (lit< tt) refl e
+medium-back Medium.IcmbV0_9 n e = same mediumOf 0x80 3 n (lit< tt) refl e
+medium-back Medium.Lan802_3 n e = same mediumOf 0x80 4 n (lit< tt) refl e
+medium-back Medium.AsynchSerialModem n e = same mediumOf 0x80 5 n (lit< tt) refl e
+medium-back Medium.OtherLan n e = same mediumOf 0x80 6 n (lit< tt) refl e
+medium-back Medium.PciSmbus n e = same mediumOf 0x80 7 n (lit< tt) refl e
+medium-back Medium.SmbusV1_0 n e = same mediumOf 0x80 8 n (lit< tt) refl e
+medium-back Medium.SmbusV2_0 n e = same mediumOf 0x80 9 n (lit< tt) refl e
+medium-back Medium.Usb1X n e = same mediumOf 0x80 10 n (lit< tt) refl e
+medium-back Medium.Usb2X n e = same mediumOf 0x80 11 n (lit< tt) refl e
+medium-back Medium.SystemInterface n e = same mediumOf 0x80 12 n (lit< tt) refl e
+medium-back (Medium.Oem v) n e = let w = ranged v 0x60 0x7F v 9 e in same mediumOf 0x80 v n (omega arith) (medium-oem v (omega arith) (w .0) (w .1)) (cc)
+medium-back (Medium.ReservedValue v) n e = let w = ranged v 0x0D 0x5F v 9 e in same mediumOf 0x80 v n (omega arith) (medium-low v (w .0) (omega arith)) (cc)
+
+protocol-back : (m : ChannelProtocolType) (n : ℕ) → protocolField m ≡ accepted n → (n < 0x20) × (protocolOf n ≡ m)
+protocol-back Protocol.Reserved n e = same protocolOf 0x20 0 n (lit< tt) refl e
+protocol-back Protocol.IpmbV1_0 n e = same protocolOf 0x20 1 n (lit< tt) refl e
+protocol-back Protocol.IcmbV1_0 n e = same protocolOf 0x20 2 n (lit< tt) refl e
+protocol-back Protocol.IpmiSmbus n e = same protocolOf 0x20 4 n (lit< tt) refl e
+protocol-back Protocol.Kcs n e = same protocolOf 0x20 5 n (lit< tt) refl e
+protocol-back Protocol.Smic n e = same protocolOf 0x20 6 n (lit< tt) refl e
+protocol-back Protocol.Bt10 n e = same protocolOf 0x20 7 n (lit< tt) refl e
+protocol-back Protocol.Bt15 n e = same protocolOf 0x20 8 n (lit< tt) refl e
+protocol-back Protocol.TerminalMode n e = same protocolOf 0x20 9 n (lit< tt) refl e
+protocol-back (Protocol.Oem v) n e = let w = ranged v 0x1C 0x1F v 9 e in same protocolOf 0x20 v n (omega arith) (protocol-oem v (omega arith) (w .0) (w .1)) (cc)
+protocol-back (Protocol.ReservedValue v) n e = go (eqb v 3) refl e
+  where
+    go : (x : Bool) → eqb v 3 ≡ x → (if x then accepted 3 else within 0x0A 0x1B v) ≡ accepted n → (n < 0x20) × (protocolOf n ≡ Protocol.ReservedValue v)
+    go true p e = same protocolOf 0x20 3 n (lit< tt) (rw (eqb-true v 3 p)) e
+    go false p e = let w = ranged v 0x0A 0x1B v 9 e in same protocolOf 0x20 v n (omega arith) (protocol-low v (w .0) (omega arith)) (cc)
+
+pub session-back : (m : ChannelSessionSupport) (n : ℕ) → sessionField m ≡ accepted n → (n < 4) × (sessionOf n ≡ m)
+session-back Session.Sessionless n e = same sessionOf 4 0 n (lit< tt) refl e
+session-back Session.SingleSession n e = same sessionOf 4 1 n (lit< tt) refl e
+session-back Session.MultiSession n e = same sessionOf 4 2 n (lit< tt) refl e
+session-back Session.SessionBased n e = same sessionOf 4 3 n (lit< tt) refl e
+session-back (Session.Reserved v) n e = absurd (apart e)
+
+-- A response with its channel read.
+pub parsed : (s : List ℕ) (channel : Channel) (info : ChannelInfo) → 9 ≤ length s → channelOf (bits 0 4 (byte 0 s)) ≡ accepted channel → info ≡ infoFields s channel → accepted info ≡ infoOf s
+parsed s channel info h e f = rw (f, le-ltb (length s) 9 h, e)
+
+-- What the writer writes.
+
+abbrev packed : ChannelInfo → ℕ → ℕ → ℕ → ℕ → List ℕ
+packed i channel medium protocol session =
+    channel ∷ medium ∷ protocol ∷ (session * 64 + i .«active_sessions») ∷ littleBytes 3 (i .«vendor_id») ++ i .«aux_info» .byte1 ∷ i .«aux_info» .byte2 ∷ []
+
+record Packed (i : ChannelInfo) (s : List ℕ) : Type 0 where
+  channel : ℕ
+  medium : ℕ
+  protocol : ℕ
+  session : ℕ
+  channel-is : channelField (i .channel) ≡ accepted channel
+  medium-is : mediumField (i .«medium_type») ≡ accepted medium
+  protocol-is : protocolField (i .«protocol_type») ≡ accepted protocol
+  session-is : sessionField (i .«session_support») ≡ accepted session
+  active : i .«active_sessions» ≤ 0x3F
+  vendor : i .«vendor_id» ≤ 0xFFFFFF
+  all : packed i channel medium protocol session ≡ s
+
+info-packed : (i : ChannelInfo) (s : List ℕ) → infoBytes i ≡ accepted s → Packed i s
+info-packed i s e =
+    let (c, ec, e1) = steps (channelField (i .channel)) _ e in
+    let (m, em, e2) = steps (mediumField (i .«medium_type»)) _ e1 in
+    let (p, ep, e3) = steps (protocolField (i .«protocol_type»)) _ e2 in
+    let (n, en, e4) = steps (sessionField (i .«session_support»)) _ e3 in
+    let (a, ea, e5) = steps (within 0 0x3F (i .«active_sessions»)) _ e4 in
+    let (v, ev, e6) = steps (within 0 0xFFFFFF (i .«vendor_id»)) _ e5 in
+    let wa = ranged (i .«active_sessions») 0 0x3F (i .«active_sessions») 9 ea in
+    let wv = ranged (i .«vendor_id») 0 0xFFFFFF (i .«vendor_id») 9 ev in
+    record {
+      channel = c;
+      medium = m;
+      protocol = p;
+      session = n;
+      channel-is = ec;
+      medium-is = em;
+      protocol-is = ep;
+      session-is = en;
+      active = wa .1;
+      vendor = wv .1;
+      all = whole c m p n a v (wa .2) (wv .2) e6;
+    }
+  where
+    whole : (c m p n a v : ℕ) → i .«active_sessions» ≡ a → i .«vendor_id» ≡ v
+        → accepted (c ∷ m ∷ p ∷ (n * 64 + a) ∷ littleBytes 3 v ++ i .«aux_info» .byte1 ∷ i .«aux_info» .byte2 ∷ []) ≡ accepted s → packed i c m p n ≡ s
+    whole c m p n a v f g e = rw (f, g) (cc)
+
+-- The reader gives back what the writer wrote.
+pub info-back : (i : ChannelInfo) (s : List ℕ) → infoBytes i ≡ accepted s → infoOf s ≡ accepted i
+info-back i s e =
+    let w = info-packed i s e in
+    let a = i .«active_sessions» in
+    let (lm, fm) = medium-back (i .«medium_type») (w .medium) (w .medium-is) in
+    let (lp, fp) = protocol-back (i .«protocol_type») (w .protocol) (w .protocol-is) in
+    let (ls, fs) = session-back (i .«session_support») (w .session) (w .session-is) in
+    let lc = channel-small (i .channel) (w .channel) (w .channel-is) in
+    let zc : bits 0 4 (w .channel) ≡ w .channel = omega arith in
+    let zm : bits 0 7 (w .medium) ≡ w .medium = omega arith in
+    let zp : bits 0 5 (w .protocol) ≡ w .protocol = omega arith in
+    let zs : bits 6 2 (w .session * 64 + a) ≡ w .session = omega arith in
+    let za : bits 0 6 (w .session * 64 + a) ≡ a = omega arith in
+    let zv = number-back 3 (i .«vendor_id») (omega arith) in
+    rw (← w .all, zc, channel-iff (w .channel) (i .channel) .1 (w .channel-is), zm, fm, zp, fp, zs, fs, za, zv)
+
+info-bytes : (i : ChannelInfo) (s : List ℕ) → Bytes (i .«aux_info» .byte1 ∷ i .«aux_info» .byte2 ∷ []) → infoBytes i ≡ accepted s → Bytes s
+info-bytes i s b e =
+    let w = info-packed i s e in
+    let lm = medium-back (i .«medium_type») (w .medium) (w .medium-is) .0 in
+    let lp = protocol-back (i .«protocol_type») (w .protocol) (w .protocol-is) .0 in
+    let ls = session-back (i .«session_support») (w .session) (w .session-is) .0 in
+    let lc = channel-small (i .channel) (w .channel) (w .channel-is) in
+    let v = bytes-are 3 (i .«vendor_id») (i .«aux_info» .byte1 ∷ i .«aux_info» .byte2 ∷ []) b in
+    rw (← w .all) (omega arith, (omega arith, (omega arith, (omega arith, v))))
+
+-- The writer writes every record that some response, a string of bytes, gives.
+pub info-given : (s : List ℕ) (i : ChannelInfo) → Bytes s → infoOf s ≡ accepted i → (t : List ℕ) × (infoBytes i ≡ accepted t)
+info-given s i b e = go (ltb (length s) 9) (channelOf (bits 0 4 (byte 0 s))) refl refl e
+  where
+    go : (x : Bool) (y : Outcome Channel) → ltb (length s) 9 ≡ x → channelOf (bits 0 4 (byte 0 s)) ≡ y
+        → (if x then refused 1 [] else faultsAs 1 (y >>= λ c. accepted (infoFields s c))) ≡ accepted i → (t : List ℕ) × (infoBytes i ≡ accepted t)
+    go true y p q e = absurd (apart e)
+    go false (refused n v) p q e = absurd (apart e)
+    go false (accepted c) p q e =
+        let z : infoFields s c ≡ i = cc in
+        let r = byte 3 s in
+        let v : little (byte 4 s ∷ byte 5 s ∷ byte 6 s ∷ []) ≤ 0xFFFFFF = omega (arith, a-byte s b 4, a-byte s b 5, a-byte s b 6) in
+        rw
+        (← z, channel-iff (bits 0 4 (byte 0 s)) c .0 q, medium-given (bits 0 7 (byte 1 s)) (omega arith), protocol-given (bits 0 5 (byte 2 s)) (omega arith), session-given (bits 6 2 r) (omega arith), inside (bits 0 6 r) 0 0x3F (bits 0 6 r) 9 (omega arith) (omega arith), inside (little (byte 4 s ∷ byte 5 s ∷ byte 6 s ∷ [])) 0 0xFFFFFF (little (byte 4 s ∷ byte 5 s ∷ byte 6 s ∷ [])) 9 (omega arith) v)
+        (_, refl)
+
+info-only : (i : ChannelInfo) → Only 9 (infoBytes i)
+info-only i =
+    begins-only (i .channel) _ λ c. only-steps 9 (mediumField (i .«medium_type»)) _ (medium-only (i .«medium_type»))
+    λ m. only-steps 9 (protocolField (i .«protocol_type»)) _ (protocol-only (i .«protocol_type»))
+    λ p. only-steps 9 (sessionField (i .«session_support»)) _ (session-only (i .«session_support»))
+    λ s. only-steps 9 (within 0 0x3F (i .«active_sessions»)) _ (only-ranged (i .«active_sessions») 0 0x3F (i .«active_sessions») 9)
+    λ a. only-steps 9 (within 0 0xFFFFFF (i .«vendor_id»)) _ (only-ranged (i .«vendor_id») 0 0xFFFFFF (i .«vendor_id») 9) λ v. refl
+  where
+    medium-only : (m : ChannelMediumType) → Only 9 (mediumField m)
+    medium-only Medium.Reserved = refl
+    medium-only Medium.Ipmb = refl
+    medium-only Medium.IcmbV1_0 = refl
+    medium-only Medium.IcmbV0_9 = refl
+    medium-only Medium.Lan802_3 = refl
+    medium-only Medium.AsynchSerialModem = refl
+    medium-only Medium.OtherLan = refl
+    medium-only Medium.PciSmbus = refl
+    medium-only Medium.SmbusV1_0 = refl
+    medium-only Medium.SmbusV2_0 = refl
+    medium-only Medium.Usb1X = refl
+    medium-only Medium.Usb2X = refl
+    medium-only Medium.SystemInterface = refl
+    medium-only (Medium.Oem n) = only-ranged n 0x60 0x7F n 9
+    medium-only (Medium.ReservedValue n) = only-ranged n 0x0D 0x5F n 9
+
+    protocol-only : (m : ChannelProtocolType) → Only 9 (protocolField m)
+    protocol-only Protocol.Reserved = refl
+    protocol-only Protocol.IpmbV1_0 = refl
+    protocol-only Protocol.IcmbV1_0 = refl
+    protocol-only Protocol.IpmiSmbus = refl
+    protocol-only Protocol.Kcs = refl
+    protocol-only Protocol.Smic = refl
+    protocol-only Protocol.Bt10 = refl
+    protocol-only Protocol.Bt15 = refl
+    protocol-only Protocol.TerminalMode = refl
+    protocol-only (Protocol.Oem n) = only-ranged n 0x1C 0x1F n 9
+    protocol-only (Protocol.ReservedValue n) = go (eqb n 3)
+      where
+        go : (x : Bool) → Only 9 (if x then accepted 3 else within 0x0A 0x1B n)
+        go true = refl
+        go false = only-ranged n 0x0A 0x1B n 9
+
+    session-only : (m : ChannelSessionSupport) → Only 9 (sessionField m)
+    session-only Session.Sessionless = refl
+    session-only Session.SingleSession = refl
+    session-only Session.MultiSession = refl
+    session-only Session.SessionBased = refl
+    session-only (Session.Reserved n) = refl
+
+-- Refusal 9: "a writer is given a record that no response reader gives", exactly then. Of the record's bytes it is said that they are bytes, as the machine's are.
+pub info-no-form : (i : ChannelInfo) → Bytes (i .«aux_info» .byte1 ∷ i .«aux_info» .byte2 ∷ []) → infoBytes i ≡ refused 9 [] ↔ ((s : List ℕ) → Bytes s × (infoOf s ≡ accepted i) → ⊥)
+info-no-form i b = no-form (infoBytes i) (λ s. Bytes s × (infoOf s ≡ accepted i)) (info-only i) (λ s e. (info-bytes i s b e, info-back i s e)) (λ s g. info-given s i (g .0) (g .1))
+
+-- The command.
+
+one : (s : List ℕ) → length s ≡ 1 → s ≡ byte 0 s ∷ []
+one [] h = absurd (omega arith)
+one (a ∷ []) h = refl
+one (a ∷ b ∷ s) h = absurd (omega arith)
+
+-- "Request readers accept exactly the byte strings that some command of its kind writes", and give that command.
+pub command-iff : (s : List ℕ) (k : GetChannelInfo) → commandOf s ≡ accepted k ↔ commandBytes k ≡ accepted s
+command-iff s k = (go (eqb (length s) 1) (channelOf (byte 0 s)) refl refl, back (channelField (k .channel)) refl)
+  where
+    go : (b : Bool) (x : Outcome Channel) → eqb (length s) 1 ≡ b → channelOf (byte 0 s) ≡ x
+        → (if b then faultsAs 10 (x >>= λ c. accepted (command c)) else refused 10 []) ≡ accepted k → commandBytes k ≡ accepted s
+    go false x p q e = absurd (apart e)
+    go true (refused n v) p q e = absurd (apart e)
+    go true (accepted c) p q e = let z : command c ≡ k = cc in rw (← z, channel-iff (byte 0 s) c .0 q, ← one s (eqb-true (length s) 1 p))
+
+    back : (x : Outcome ℕ) → channelField (k .channel) ≡ x → (x >>= λ n. accepted (n ∷ [])) ≡ accepted s → commandOf s ≡ accepted k
+    back (refused n v) p e = absurd (apart e)
+    back (accepted n) p e = let z : _≡_ {A = List ℕ} (n ∷ []) s = cc in rw (← z, channel-iff n (k .channel) .1 p)
+
+-- Refusal 9: ".. or a command whose channel no number makes", exactly then.
+pub command-no-form : (k : GetChannelInfo) → commandBytes k ≡ refused 9 [] ↔ ((n : ℕ) → channelOf n ≡ accepted (k .channel) → ⊥)
+command-no-form k = no-channel-form (k .channel) (λ n. n ∷ [])

@@ -1,0 +1,2 @@
+// What a channel is, after ipmi-rs-core 0.6.0.
+pub mod get_channel_info;
