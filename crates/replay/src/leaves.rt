@@ -1,4 +1,5 @@
 // Questions on the leaves of the port. An answer of no bytes: not such a question.
+use crate::channels::channel_text;
 use crate::put::decimal;
 use crate::put::named;
 use crate::put::none;
@@ -27,25 +28,18 @@ use check::same;
 
 fn channel_number(n: u8, out: &mut [u8]) -> usize {
     let NumberAnswer::Number(number) = ChannelNumber::new(n) else {
-        return refused(Refusal::NoChannel.number(), out);
+        return refused(Refusal::NoChannel, out);
     };
     decimal(number.value() as u64, 0, out)
 }
 
 fn channel(n: u8, out: &mut [u8]) -> usize {
     let ChannelAnswer::Channel(channel) = Channel::new(n) else {
-        return refused(Refusal::NoChannel.number(), out);
+        return refused(Refusal::NoChannel, out);
     };
     let at = decimal(channel.value() as u64, 0, out);
     let at = text(b" ", at, out);
-    let mut words = [0u8; 32];
-    let Written::Length(length) = channel.text(&mut words) else {
-        return 0;
-    };
-    if 32 < length {
-        return 0;
-    }
-    text(&words[0..length], at, out)
+    channel_text(channel, at, out)
 }
 
 fn unit(unit: LogicalUnit, out: &mut [u8]) -> usize {

@@ -5,6 +5,7 @@ use crate::question::find;
 use libc::STDIN_FILENO;
 use libc::STDOUT_FILENO;
 
+mod channels;
 mod leaves;
 mod put;
 mod question;

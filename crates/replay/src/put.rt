@@ -1,4 +1,6 @@
 // An answering line, put together: what is written so far ends at `at`, and each function gives the new end.
+use base::refusal::Refusal;
+use base::text::digit;
 use base::written::Written;
 use base::written::place;
 
@@ -39,7 +41,71 @@ pub(crate) fn none(out: &mut [u8]) -> usize {
     text(b"none", 0, out)
 }
 
-pub(crate) fn refused(number: u8, out: &mut [u8]) -> usize {
+pub(crate) fn refused(refusal: Refusal, out: &mut [u8]) -> usize {
     let at = text(b"refused ", 0, out);
-    decimal(number as u64, at, out)
+    decimal(refusal.number() as u64, at, out)
+}
+
+// A name and 0 or 1.
+pub(crate) fn flag(name: &[u8], set: bool, at: usize, out: &mut [u8]) -> usize {
+    let at = text(name, at, out);
+    if set {
+        return text(b"1", at, out);
+    }
+    text(b"0", at, out)
+}
+
+// What was written to `words`.
+pub(crate) fn copied(written: Written, words: &[u8], at: usize, out: &mut [u8]) -> usize {
+    let Written::Length(n) = written else {
+        return at;
+    };
+    if words.len() < n {
+        return at;
+    }
+    text(&words[0..n], at, out)
+}
+
+// A byte as two digits, behind a space but at the start.
+fn pair(byte: u8, at: usize, out: &mut [u8]) -> usize {
+    if at == 0 {
+        return text(&[digit(byte / 16), digit(byte)], at, out);
+    }
+    text(&[b' ', digit(byte / 16), digit(byte)], at, out)
+}
+
+fn pairs(bytes: &[u8], out: &mut [u8]) -> usize {
+    let mut at: usize = 0;
+    for i in 0..bytes.len() {
+        at = pair(bytes[i], at, out);
+    }
+    at
+}
+
+// What was written to `message`, as hex pairs; the number of its refusal, where it was refused.
+pub(crate) fn hex(written: Written, message: &[u8], out: &mut [u8]) -> usize {
+    match written {
+        Written::Length(n) => {
+            if message.len() < n {
+                return 0;
+            }
+            pairs(&message[0..n], out)
+        }
+        Written::Refused(refusal) => refused(refusal, out),
+    }
+}
+
+// FNV-1a, 32 bits.
+fn hashed_byte(byte: u8, hash: u64) -> u64 {
+    (hash ^ byte as u64) % 0x1_0000_0000 * 16777619 % 0x1_0000_0000
+}
+
+pub(crate) fn hashed(line: &[u8], end: usize, before: u64) -> u64 {
+    let mut hash = before;
+    if end <= line.len() {
+        for i in 0..end {
+            hash = hashed_byte(line[i], hash);
+        }
+    }
+    hash
 }

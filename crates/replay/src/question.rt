@@ -1,6 +1,7 @@
 // A question is a word, then hex pairs of either case, one space before each.
 ghost use Prim.Native.Nat.{_≤_};
 ghost use lib.ListN.{length};
+use crate::channels::answer_channel;
 use crate::leaves::answer_leaf;
 use crate::put::text;
 
@@ -76,6 +77,14 @@ fn bad(out: &mut [u8]) -> usize {
     text(b"bad question\n", 0, out)
 }
 
+fn asked(word: &[u8], bytes: &[u8], out: &mut [u8]) -> usize {
+    let n = answer_leaf(word, bytes, out);
+    if n != 0 {
+        return n;
+    }
+    answer_channel(word, bytes, out)
+}
+
 // The answering line, with its newline, at the start of `out`; its length.
 pub(crate) fn answer(line: &[u8], out: &mut [u8]) -> usize {
     let word = find(line, 0, b' ');
@@ -87,7 +96,7 @@ pub(crate) fn answer(line: &[u8], out: &mut [u8]) -> usize {
     if 1024 < count {
         return bad(out);
     }
-    let n = answer_leaf(&line[0..word], &bytes[0..count], out);
+    let n = asked(&line[0..word], &bytes[0..count], out);
     if n == 0 {
         return bad(out);
     }

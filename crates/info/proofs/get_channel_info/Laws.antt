@@ -191,13 +191,13 @@ info-bytes i s b e =
 
 -- The writer writes every record that some response, a string of bytes, gives.
 pub info-given : (s : List ℕ) (i : ChannelInfo) → Bytes s → infoOf s ≡ accepted i → (t : List ℕ) × (infoBytes i ≡ accepted t)
-info-given s i b e = go (ltb (length s) 9) (channelOf (bits 0 4 (byte 0 s))) refl refl e
+info-given s i b e = go (ltb (length s) 9) (channelOf (bits 0 4 (byte 0 s))) refl refl
   where
-    go : (x : Bool) (y : Outcome Channel) → ltb (length s) 9 ≡ x → channelOf (bits 0 4 (byte 0 s)) ≡ y
-        → (if x then refused 1 [] else faultsAs 1 (y >>= λ c. accepted (infoFields s c))) ≡ accepted i → (t : List ℕ) × (infoBytes i ≡ accepted t)
-    go true y p q e = absurd (apart e)
-    go false (refused n v) p q e = absurd (apart e)
-    go false (accepted c) p q e =
+    go : (x : Bool) (y : Outcome Channel) → ltb (length s) 9 ≡ x → channelOf (bits 0 4 (byte 0 s)) ≡ y → (t : List ℕ) × (infoBytes i ≡ accepted t)
+    go true y p q = absurd (apart (rw p at e))
+    go false (refused n v) p q = absurd (apart (rw (p, q) at e))
+    go false (accepted c) p q =
+        let f = rw (p, q) at e in
         let z : infoFields s c ≡ i = cc in
         let r = byte 3 s in
         let v : little (byte 4 s ∷ byte 5 s ∷ byte 6 s ∷ []) ≤ 0xFFFFFF = omega (arith, a-byte s b 4, a-byte s b 5, a-byte s b 6) in

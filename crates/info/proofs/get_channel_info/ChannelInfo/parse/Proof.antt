@@ -25,7 +25,7 @@ returns-3 c =
     let s = n .before .before .before .before .before .args .response .now in
     parsed s (k .channel .given .0 .0) _ (omega arith)
     (sym (ap channelOf (n .before .bits .ensures)) ∙ sym (n .new .ensures) ∙ ap saidChannel (k .channel .given .1))
-    (rw (← f .before .before .before .before .before .before .before .bits2 .ensures, ← f .before .before .before .before .before .before .from .ensures, ← f .before .before .before .before .bits3 .ensures, ← f .before .before .before .from2 .ensures, ← f .before .before .bits4 .ensures, ← f .before .from3 .ensures, ← f .bits5 .ensures, ← c .before .before .number3 .ensures))
+    (simp (f .before .before .before .before .before .before .before .bits2 .ensures, f .before .before .before .before .before .before .from .ensures, f .before .before .before .before .bits3 .ensures, f .before .before .before .from2 .ensures, f .before .before .bits4 .ensures, f .before .from3 .ensures, f .bits5 .ensures, c .before .before .number3 .ensures))
 
 pub parse-spec : {M : Type 1} → statement M
 parse-spec =

@@ -14,7 +14,7 @@ returns-14 c =
 returns-15 : tie.Need-returns-15
 returns-15 c =
     let m = c .before in
-    sym (medium-low (m .before .args .value) (none-of (m .before .args .value) 13 (m .match .rest)) (omega arith))
+    sym (medium-low (m .before .args .value) (none-of (m .before .args .value) 13 (m .match .rest)) (c .if1 .taken))
 
 returns-16 : tie.Need-returns-16
 returns-16 c =

@@ -14,7 +14,7 @@ returns-11 c =
 returns-12 : tie.Need-returns-12
 returns-12 c =
     let m = c .before in
-    sym (protocol-low (m .before .args .value) (none-of (m .before .args .value) 10 (m .match .rest)) (omega arith))
+    sym (protocol-low (m .before .args .value) (none-of (m .before .args .value) 10 (m .match .rest)) (c .if1 .taken))
 
 returns-13 : tie.Need-returns-13
 returns-13 c =
