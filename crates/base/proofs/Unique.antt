@@ -42,6 +42,15 @@ flag-unique κs a ok z z′ w w′ q q′ = (both q q′, refl)
 pub within-unique : Unique p.field.within.Kinds.ps p.field.within.Kinds.r p.field.within.Reads.Asked p.field.within.Reads.Learnt
 within-unique κs a ok z z′ w w′ q q′ = (field-one z z′ (both q q′), refl)
 
+pub flags-unique : Unique p.field.flags.Kinds.ps p.field.flags.Kinds.r p.field.flags.Reads.Asked p.field.flags.Reads.Learnt
+flags-unique κs a ok z z′ w w′ q q′ = (both q q′, refl)
+
+pub number4-unique : Unique p.little.number4.Kinds.ps p.little.number4.Kinds.r p.little.number4.Reads.Asked p.little.number4.Reads.Learnt
+number4-unique κs a ok z z′ w w′ q q′ = (both q q′, refl)
+
+pub bytes4-unique : Unique p.little.bytes4.Kinds.ps p.little.bytes4.Kinds.r p.little.bytes4.Reads.Asked p.little.bytes4.Reads.Learnt
+bytes4-unique κs a ok z z′ w w′ q q′ = (both q q′, refl)
+
 pub number3-unique : Unique p.little.number3.Kinds.ps p.little.number3.Kinds.r p.little.number3.Reads.Asked p.little.number3.Reads.Learnt
 number3-unique κs a ok z z′ w w′ q q′ = (both q q′, refl)
 

@@ -1,5 +1,5 @@
 -- A field of a byte is a position and a width, as a row of the standard's tables.
-use Prim.Native.Nat.{ℕ, _*_, _/_, _%_, _^_}
+use Prim.Native.Nat.{ℕ, _+_, _*_, _/_, _%_, _^_}
 use mathlib.Core.Bool.{Bool}
 use mathlib.Core.List.{List, []}
 use lib.ListN.{getD}
@@ -32,3 +32,7 @@ flag at byte = bits at 1 byte =? 1
 -- what bit `at`, where it is set, adds to its byte
 abbrev pub raised : ℕ → Bool → ℕ
 raised at flag = boolByte flag * 2 ^ at
+
+-- a byte of flags, bit 7 first
+abbrev pub flags : Bool → Bool → Bool → Bool → Bool → Bool → Bool → Bool → ℕ
+flags b7 b6 b5 b4 b3 b2 b1 b0 = boolByte b0 + raised 1 b1 + raised 2 b2 + raised 3 b3 + raised 4 b4 + raised 5 b5 + raised 6 b6 + raised 7 b7

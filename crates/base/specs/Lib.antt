@@ -6,4 +6,5 @@ pub mod Named
 pub mod Outcome
 pub mod Refusal
 pub mod Text
+pub mod Verdict
 pub mod Written

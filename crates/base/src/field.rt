@@ -1,6 +1,6 @@
 // A field of a byte is a position and a width, as in the standard's tables.
 ghost use mathlib.Core.Path.{_≡_};
-ghost use Rattle.base.specs.Field.{bits, flag, saidField, within};
+ghost use Rattle.base.specs.Field.{bits, flag, flags, saidField, within};
 
 // What a value is in its field; `NoForm` where no reading of the field gives that value.
 pub enum FieldAnswer {
@@ -39,4 +39,18 @@ pub fn flag(byte: u8, at: u8) -> bool
     ensures { λ r. ⌜ r ≡ flag at byte ⌝ }
 {
     bits(byte, at, 1) == 1
+}
+
+// A byte of flags, as the standard's tables have them: bit 7 first.
+pub fn flags(b7: bool, b6: bool, b5: bool, b4: bool, b3: bool, b2: bool, b1: bool, b0: bool) -> u8
+    ensures { λ r. ⌜ r ≡ flags b7 b6 b5 b4 b3 b2 b1 b0 ⌝ }
+{
+    b0 as u8
+        | (b1 as u8) << 1
+        | (b2 as u8) << 2
+        | (b3 as u8) << 3
+        | (b4 as u8) << 4
+        | (b5 as u8) << 5
+        | (b6 as u8) << 6
+        | (b7 as u8) << 7
 }

@@ -4,4 +4,5 @@ pub mod field;
 pub mod little;
 pub mod refusal;
 pub mod text;
+pub mod verdict;
 pub mod written;

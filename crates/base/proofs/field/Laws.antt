@@ -5,12 +5,12 @@ use mathlib.Core.Bool.{Bool, true, false}
 use mathlib.Core.List.{List, [], _∷_}
 use borrow.Author.Tests.{ltb-true, ltb-false}
 use mir.Val.{boolByte}
-use lib.Dec.{lit<, ltb}
+use lib.Dec.{lit<, lit≤, eqb, ltb}
 use lib.Bits.{bitOr, or-shifted-r}
 use native.Mathlib.Nat.{add-comm, div-eq-of-lt, mod-eq-of-lt, zero-mod, one-mul, lt-of-lt-of-le, lt-of-le-of-lt}
 use native.Mathlib.Omega.{arith}
 use lib.Pow.{pow-mono, pow-lt, pow-pos, shr-le, shl-exact}
-use Rattle.base.specs.Field.{bits, raised}
+use Rattle.base.specs.Field.{bits, flag, flags, raised}
 use Rattle.base.specs.Outcome.{accepted}
 
 -- a byte has no bit above 7
@@ -34,6 +34,54 @@ bit-small true = lit< tt
 -- the machine's x | (b as u8) << at, where bit `at` and those above it are clear in x
 pub set-bit : (at x : ℕ) (b : Bool) → at ≤ 7 → x < 2 ^ at → bitOr x (boolByte b * 2 ^ at % 256) ≡ x + raised at b
 set-bit at x b h p = rw (shl-exact {a = boolByte b} 1 at 8 (bit-small b) (omega arith)) (or-shifted-r (boolByte b) at x p ∙ add-comm (raised at b) x)
+
+pub is-set : (b : Bool) → eqb (boolByte b) 1 ≡ b
+is-set true = refl
+is-set false = refl
+
+pub is-flag : (at n : ℕ) (b : Bool) → bits at 1 n ≡ boolByte b → flag at n ≡ b
+is-flag at n b e = rw e (is-set b)
+
+-- A byte of flags: what the machine puts together, and each flag read again.
+module _ (b7 b6 b5 b4 b3 b2 b1 b0 : Bool) where
+  pub flags-packed : bitOr (bitOr (bitOr (bitOr (bitOr (bitOr (bitOr (boolByte b0) (boolByte b1 * 2 % 256)) (boolByte b2 * 4 % 256)) (boolByte b3 * 8 % 256)) (boolByte b4 * 16 % 256)) (boolByte b5 * 32 % 256)) (boolByte b6 * 64 % 256)) (boolByte b7 * 128 % 256)
+      ≡ flags b7 b6 b5 b4 b3 b2 b1 b0
+  flags-packed =
+      let s0 = bit-small b0 in
+      let s1 = bit-small b1 in
+      let s2 = bit-small b2 in
+      let s3 = bit-small b3 in
+      let s4 = bit-small b4 in
+      let s5 = bit-small b5 in
+      let s6 = bit-small b6 in
+      let x1 = boolByte b0 + raised 1 b1 in
+      let x2 = x1 + raised 2 b2 in
+      let x3 = x2 + raised 3 b3 in
+      let x4 = x3 + raised 4 b4 in
+      let x5 = x4 + raised 5 b5 in
+      let x6 = x5 + raised 6 b6 in
+      rw
+      (set-bit 1 (boolByte b0) b1 (lit≤ tt) s0, set-bit 2 x1 b2 (lit≤ tt) (omega arith), set-bit 3 x2 b3 (lit≤ tt) (omega arith), set-bit 4 x3 b4 (lit≤ tt) (omega arith), set-bit 5 x4 b5 (lit≤ tt) (omega arith), set-bit 6 x5 b6 (lit≤ tt) (omega arith), set-bit 7 x6 b7 (lit≤ tt) (omega arith))
+
+  pub flags-read : (flag 7 (flags b7 b6 b5 b4 b3 b2 b1 b0) ≡ b7)
+      × (flag 6 (flags b7 b6 b5 b4 b3 b2 b1 b0) ≡ b6)
+      × (flag 5 (flags b7 b6 b5 b4 b3 b2 b1 b0) ≡ b5)
+      × (flag 4 (flags b7 b6 b5 b4 b3 b2 b1 b0) ≡ b4)
+      × (flag 3 (flags b7 b6 b5 b4 b3 b2 b1 b0) ≡ b3)
+      × (flag 2 (flags b7 b6 b5 b4 b3 b2 b1 b0) ≡ b2)
+      × (flag 1 (flags b7 b6 b5 b4 b3 b2 b1 b0) ≡ b1)
+      × (flag 0 (flags b7 b6 b5 b4 b3 b2 b1 b0) ≡ b0)
+  flags-read =
+      let f = flags b7 b6 b5 b4 b3 b2 b1 b0 in
+      let s0 = bit-small b0 in
+      let s1 = bit-small b1 in
+      let s2 = bit-small b2 in
+      let s3 = bit-small b3 in
+      let s4 = bit-small b4 in
+      let s5 = bit-small b5 in
+      let s6 = bit-small b6 in
+      let s7 = bit-small b7 in
+      (is-flag 7 f b7 (omega arith), is-flag 6 f b6 (omega arith), is-flag 5 f b5 (omega arith), is-flag 4 f b4 (omega arith), is-flag 3 f b3 (omega arith), is-flag 2 f b2 (omega arith), is-flag 1 f b1 (omega arith), is-flag 0 f b0 (omega arith))
 
 -- f at each number below k, for a claim on all of them by one computed test, as that each number of a field, once read, is written again
 abbrev pub upTo : {A : Type 0} → ℕ → (ℕ → A) → List A

@@ -26,7 +26,7 @@ use Rattle.channel.specs.declared.get_channel_access.ChannelPrivilegeLev
 use Rattle.channel.specs.declared.get_channel_access.GetChannelAccess.{GetChannelAccess}
 use Rattle.base.proofs.Outcome.{apart, Only, only-steps, no-form, ranged, only-ranged}
 use Rattle.base.proofs.connection.Laws.{channel-iff, no-channel-form}
-use Rattle.base.proofs.field.Laws.{below, bit-small, same, set-bit}
+use Rattle.base.proofs.field.Laws.{below, bit-small, is-set, same, set-bit}
 
 -- Modes and limits: a number that is read is written again, and what is written is read again.
 
@@ -80,10 +80,6 @@ module _ (mode : ℕ) (user perMessage alerting : Bool) (small : mode < 8) where
       let p = bit-small perMessage in
       let a = bit-small alerting in
       (omega arith, omega arith, omega arith, omega arith)
-
-is-set : (b : Bool) → eqb (boolByte b) 1 ≡ b
-is-set true = refl
-is-set false = refl
 
 reads : (a : ChannelAccess) (m l : ℕ) → modeField (a .«access_mode») ≡ accepted m → limitField (a .«privilege_level_limit») ≡ accepted l
     → accessOf (first m (a .«user_level_auth_disabled») (a .«per_msg_auth_disabled») (a .«alerting_disabled») ∷ l ∷ []) ≡ accepted a
