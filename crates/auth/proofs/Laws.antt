@@ -4,7 +4,7 @@ use mathlib.Core.Path.{_≡_, refl}
 use mathlib.Core.Bool.{Bool, true, false}
 use mathlib.Core.List.{[], _∷_}
 use mathlib.Core.Option.{none, some}
-use Prim.Native.Nat.{ℕ, _<_}
+use Prim.Native.Nat.{ℕ, _≤_, _<_}
 use native.Mathlib.Omega.{arith}
 use borrow.Author.Tests.{ltb-true, ltb-false, lt-ltb, le-ltb}
 use lib.Dec.{ltb}
@@ -19,7 +19,7 @@ use Rattle.auth.specs.declared.Ordering.{Ordering}
 use Rattle.auth.specs.declared.Ordering.the-variants.{Less, Equal, Greater}
 use Rattle.auth.specs.declared.PrivilegeLevel.{PrivilegeLevel}
 use Rattle.auth.specs.declared.PrivilegeLevel.the-variants.{Callback, User, Operator, Administrator, OemProperietary}
-use Rattle.base.proofs.Named.{name-iff, unnamed}
+use Rattle.base.proofs.Named.{name-iff, nothing, unnamed}
 
 infix 15 _weaker_
 -- a number names exactly the type whose number it is
@@ -29,7 +29,7 @@ auth-type-iff = name-iff authTypeValue authTypes refl (elim [ None ↦ refl | MD
 pub no-auth-type : (n : ℕ) → (0 ≡ n → ⊥) → (1 ≡ n → ⊥) → (2 ≡ n → ⊥) → (4 ≡ n → ⊥) → authTypeOf n ≡ none
 no-auth-type n no-none no-md2 no-md5 no-key = unnamed authTypeValue authTypes auth-type-iff n (elim [ None ↦ no-none | MD2 ↦ no-md2 | MD5 ↦ no-md5 | Key ↦ no-key ])
 
-nibble-iff : (n : ℕ) (l : PrivilegeLevel) → named privileges n ≡ some l ↔ privilegeValue l ≡ n
+pub nibble-iff : (n : ℕ) (l : PrivilegeLevel) → named privileges n ≡ some l ↔ privilegeValue l ≡ n
 nibble-iff = name-iff privilegeValue privileges refl (elim [ Callback ↦ refl | User ↦ refl | Operator ↦ refl | Administrator ↦ refl | OemProperietary ↦ refl ])
 
 -- a byte names exactly the level whose number is its low nibble
@@ -38,6 +38,14 @@ privilege-iff n l = nibble-iff (bits 0 4 n) l
 
 pub no-privilege : (n : ℕ) → (1 ≡ bits 0 4 n → ⊥) → (2 ≡ bits 0 4 n → ⊥) → (3 ≡ bits 0 4 n → ⊥) → (4 ≡ bits 0 4 n → ⊥) → (5 ≡ bits 0 4 n → ⊥) → privilegeOf n ≡ none
 no-privilege n a b c d e = unnamed privilegeValue privileges nibble-iff (bits 0 4 n) (elim [ Callback ↦ a | User ↦ b | Operator ↦ c | Administrator ↦ d | OemProperietary ↦ e ])
+
+-- a level's number in a request, where the whole byte counts
+
+pub low-level : (n : ℕ) → n ≤ 15 → privilegeOf n ≡ named privileges n
+low-level n h = let z : bits 0 4 n ≡ n = omega arith in rw z
+
+pub high-level : (n : ℕ) → 15 < n → named privileges n ≡ none
+high-level n h = nothing privileges n (omega arith)
 
 -- The strength order.
 

@@ -1,8 +1,9 @@
 -- Any two outcomes that a public function's promise allows at the same arguments coincide.
 use mathlib.Core.Path.{refl}
 use Rattle.auth.proofs as p
-use Rattle.auth.proofs.Said.{authentication-one, confidentiality-one, integrity-one, auth-type-one, privilege-one}
+use Rattle.auth.proofs.Said.{authentication-one, confidentiality-one, integrity-one, auth-type-one, capabilities-command-one, privilege-one}
 use Rattle.base.proofs.Unique.{Unique, both, writer}
+use Rattle.base.proofs.verdict.Laws.{beside}
 
 pub authentication-algorithm-try-from-unique : Unique p.algorithms.AuthenticationAlgorithm.try_from.Kinds.ps p.algorithms.AuthenticationAlgorithm.try_from.Kinds.r p.algorithms.AuthenticationAlgorithm.try_from.Reads.Asked p.algorithms.AuthenticationAlgorithm.try_from.Reads.Learnt
 authentication-algorithm-try-from-unique κs a ok z z′ w w′ q q′ = (authentication-one z z′ (both q q′), refl)
@@ -39,3 +40,24 @@ privilege-level-try-from-unique κs a ok z z′ w w′ q q′ = (privilege-one z
 
 pub privilege-level-value-unique : Unique p.PrivilegeLevel.value.Kinds.ps p.PrivilegeLevel.value.Kinds.r p.PrivilegeLevel.value.Reads.Asked p.PrivilegeLevel.value.Reads.Learnt
 privilege-level-value-unique κs a ok z z′ w w′ q q′ = (both q q′, refl)
+
+pub get-channel-authentication-capabilities-new-unique : Unique p.get_channel_authentication_capabilities.GetChannelAuthenticationCapabilities.new.Kinds.ps p.get_channel_authentication_capabilities.GetChannelAuthenticationCapabilities.new.Kinds.r p.get_channel_authentication_capabilities.GetChannelAuthenticationCapabilities.new.Reads.Asked p.get_channel_authentication_capabilities.GetChannelAuthenticationCapabilities.new.Reads.Learnt
+get-channel-authentication-capabilities-new-unique κs a ok z z′ w w′ q q′ = (both q q′, refl)
+
+pub get-channel-authentication-capabilities-numbered-unique : Unique p.get_channel_authentication_capabilities.GetChannelAuthenticationCapabilities.numbered.Kinds.ps p.get_channel_authentication_capabilities.GetChannelAuthenticationCapabilities.numbered.Kinds.r p.get_channel_authentication_capabilities.GetChannelAuthenticationCapabilities.numbered.Reads.Asked p.get_channel_authentication_capabilities.GetChannelAuthenticationCapabilities.numbered.Reads.Learnt
+get-channel-authentication-capabilities-numbered-unique κs a ok z z′ w w′ q q′ = (capabilities-command-one z z′ (both q q′), refl)
+
+pub get-channel-authentication-capabilities-write-unique : Unique p.get_channel_authentication_capabilities.GetChannelAuthenticationCapabilities.write.Kinds.ps p.get_channel_authentication_capabilities.GetChannelAuthenticationCapabilities.write.Kinds.r p.get_channel_authentication_capabilities.GetChannelAuthenticationCapabilities.write.Reads.Asked p.get_channel_authentication_capabilities.GetChannelAuthenticationCapabilities.write.Reads.Learnt
+get-channel-authentication-capabilities-write-unique κs a ok z z′ w w′ q q′ = writer q q′
+
+pub get-channel-authentication-capabilities-read-unique : Unique p.get_channel_authentication_capabilities.GetChannelAuthenticationCapabilities.read.Kinds.ps p.get_channel_authentication_capabilities.GetChannelAuthenticationCapabilities.read.Kinds.r p.get_channel_authentication_capabilities.GetChannelAuthenticationCapabilities.read.Reads.Asked p.get_channel_authentication_capabilities.GetChannelAuthenticationCapabilities.read.Reads.Learnt
+get-channel-authentication-capabilities-read-unique κs a ok z z′ w w′ q q′ = (capabilities-command-one z z′ (both q q′), refl)
+
+pub channel-authentication-capabilities-parse-unique : Unique p.get_channel_authentication_capabilities.ChannelAuthenticationCapabilities.parse.Kinds.ps p.get_channel_authentication_capabilities.ChannelAuthenticationCapabilities.parse.Kinds.r p.get_channel_authentication_capabilities.ChannelAuthenticationCapabilities.parse.Reads.Asked p.get_channel_authentication_capabilities.ChannelAuthenticationCapabilities.parse.Reads.Learnt
+channel-authentication-capabilities-parse-unique κs a ok z z′ w w′ q q′ = (beside (λ verdict capabilities. record { verdict = verdict; capabilities = capabilities }) q q′, refl)
+
+pub channel-authentication-capabilities-best-auth-unique : Unique p.get_channel_authentication_capabilities.ChannelAuthenticationCapabilities.best_auth.Kinds.ps p.get_channel_authentication_capabilities.ChannelAuthenticationCapabilities.best_auth.Kinds.r p.get_channel_authentication_capabilities.ChannelAuthenticationCapabilities.best_auth.Reads.Asked p.get_channel_authentication_capabilities.ChannelAuthenticationCapabilities.best_auth.Reads.Learnt
+channel-authentication-capabilities-best-auth-unique κs a ok z z′ w w′ q q′ = (auth-type-one z z′ (both q q′), refl)
+
+pub channel-authentication-capabilities-write-unique : Unique p.get_channel_authentication_capabilities.ChannelAuthenticationCapabilities.write.Kinds.ps p.get_channel_authentication_capabilities.ChannelAuthenticationCapabilities.write.Kinds.r p.get_channel_authentication_capabilities.ChannelAuthenticationCapabilities.write.Reads.Asked p.get_channel_authentication_capabilities.ChannelAuthenticationCapabilities.write.Reads.Learnt
+channel-authentication-capabilities-write-unique κs a ok z z′ w w′ q q′ = writer q q′

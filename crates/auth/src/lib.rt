@@ -9,6 +9,7 @@ use base::written::Written;
 use base::written::place;
 
 pub mod algorithms;
+pub mod get_channel_authentication_capabilities;
 
 pub enum AuthType {
     None,

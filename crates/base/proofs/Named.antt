@@ -1,12 +1,13 @@
 -- Laws of names: a number and what it names are each other's inverse.
 use mathlib.Core.Logic.{_↔_}
-use mathlib.Core.Path.{_≡_, refl}
+use mathlib.Core.Path.{_≡_, refl, sym, _∙_, ap}
 use mathlib.Core.List.{List, [], _∷_}
 use mathlib.Core.Option.{Option, none, some}
 use Prim.Native.Nat.{ℕ, zero, suc, _+_, _≤_}
 use native.Mathlib.Omega.{arith}
 use lib.ListN.{length, List·getD-eq-default}
 use Rattle.base.specs.Named.{named}
+use Rattle.base.specs.Outcome.{Outcome, accepted}
 
 pub nothing : {A : Type 0} (names : List (Option A)) (n : ℕ) → length names ≤ n → named names n ≡ none
 nothing names n h = List·getD-eq-default names none h
@@ -45,3 +46,7 @@ unnamed {A} number names iff n never = go (named names n) refl
     go : (o : Option A) → named names n ≡ o → named names n ≡ none
     go none e = e
     go (some a) e = absurd (never a (iff n a .0 e))
+
+-- what an answer's case tells of what a number names
+pub told : {X A : Type 0} (said : X → Outcome (Option A)) {x y : X} {o : Option A} (n : Option A) → said x ≡ accepted o → x ≡ y → said y ≡ accepted n → o ≡ n
+told said {o} n e f g = let z : accepted o ≡ accepted n = sym e ∙ ap said f ∙ g in cc

@@ -20,6 +20,14 @@ Unique {n} ps r Asked Learnt =
     → Learnt κs a z (atExit (endedOf n ps r) κs a w) → Learnt κs a z′ (atExit (endedOf n ps r) κs a w′)
     → (z ≡ z′) × (w ≡ w′)
 
+-- the same of a function that returns a part of lent bytes, by what is seen of the part
+abbrev pub UniquePart : {n : ℕ} (ps : List (PK n)) (r : RK n) → In n ps → Out n ps r → ((κs : Lfts n) → resT r κs .Denot → List ℕ) → Type 0
+UniquePart {n} ps r Asked Learnt seen =
+    (κs : Lfts n) (a : Dens κs ps) → Asked κs a
+    → (z z′ : resT r κs .Denot) (w w′ : Lasts (endedOf n ps r) κs a)
+    → Learnt κs a z (atExit (endedOf n ps r) κs a w) → Learnt κs a z′ (atExit (endedOf n ps r) κs a w′)
+    → (seen κs z ≡ seen κs z′) × (w ≡ w′)
+
 pub both {ℓ} : {A : Type ℓ} {x y z : A} → x ≡ z → y ≡ z → x ≡ y
 both e f = e ∙ sym f
 

@@ -1,11 +1,17 @@
 -- Document 01, "Examples at the edges", those marked P: rows of a table under one claim.
 use mathlib.Core.Path.{_≡_, refl}
-use mathlib.Core.List.{List, [], _∷_, map}
+use mathlib.Core.List.{List, [], _∷_, _++_, map}
+use mathlib.Core.Option.{some}
+use lib.ListN.{replicate}
+use Rattle.auth.specs.Auth.{privilegeOf}
+use Rattle.auth.specs.declared.PrivilegeLevel.the-variants.{Administrator}
 use Rattle.base.specs.Connection.{channelOf}
 use Rattle.base.specs.Outcome.{accepted, refused}
 use Rattle.base.specs.declared.connection.Channel.the-variants.{Current, Numbered}
 use Rattle.channel.specs.GetChannelAccess.{command, commandBytes}
 use Rattle.channel.specs.declared.get_channel_access.ChannelAccessType.the-variants.{NonVolatile}
+use Rattle.session.specs.ActivateSession.{beginOf}
+use Rattle.session.specs.GetSessionChallenge.{challengeOf}
 
 infix 5 _gives_
 pub record Row : Type 1 where
@@ -26,6 +32,14 @@ examples =
     ∷ (channelOf 0x10 gives refused 6 [])
     -- P5
     ∷ (commandBytes (command Current NonVolatile) gives accepted (0x0E ∷ 0x40 ∷ []))
+    -- P7
+    ∷ (challengeOf (replicate 21 1) gives refused 1 [])
+    ∷ (challengeOf (replicate 4 0 ++ replicate 16 1) gives refused 3 [])
+    -- P8
+    ∷ (beginOf (3 ∷ replicate 9 0) gives refused 4 (3 ∷ []))
+    -- P9
+    ∷ (privilegeOf 0xF4 gives some Administrator)
+    ∷ (beginOf (0 ∷ replicate 8 1 ++ 0x06 ∷ []) gives refused 5 (0x06 ∷ []))
     ∷ []
 
 pub examples-hold : map (λ (r : Row). r .what gives r .what) examples ≡ map (λ (r : Row). r .what gives r .answer) examples

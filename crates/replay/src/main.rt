@@ -9,6 +9,7 @@ mod channels;
 mod leaves;
 mod put;
 mod question;
+mod sessions;
 
 // More than an answer and its newline take.
 const ROOM: usize = 8192;

@@ -41,9 +41,21 @@ pub(crate) fn none(out: &mut [u8]) -> usize {
     text(b"none", 0, out)
 }
 
+fn carried(value: u8, at: usize, out: &mut [u8]) -> usize {
+    let at = text(b" ", at, out);
+    decimal(value as u64, at, out)
+}
+
+// The number of a refusal, and the value that it carries.
 pub(crate) fn refused(refusal: Refusal, out: &mut [u8]) -> usize {
     let at = text(b"refused ", 0, out);
-    decimal(refusal.number() as u64, at, out)
+    let at = decimal(refusal.number() as u64, at, out);
+    match refusal {
+        Refusal::InvalidAuthType(byte) => carried(byte, at, out),
+        Refusal::InvalidPrivilegeLevel(byte) => carried(byte, at, out),
+        Refusal::Incomplete(index) => carried(index, at, out),
+        _ => at,
+    }
 }
 
 // A name and 0 or 1.
@@ -80,6 +92,19 @@ fn pairs(bytes: &[u8], out: &mut [u8]) -> usize {
         at = pair(bytes[i], at, out);
     }
     at
+}
+
+// Bytes as hex pairs, behind what is there.
+pub(crate) fn pairs_at(bytes: &[u8], at: usize, out: &mut [u8]) -> usize {
+    let mut words = [0u8; 64];
+    let n = pairs(bytes, &mut words);
+    copied(Written::Length(n), &words, at, out)
+}
+
+// A name and a number.
+pub(crate) fn number(name: &[u8], n: u64, at: usize, out: &mut [u8]) -> usize {
+    let at = text(name, at, out);
+    decimal(n, at, out)
 }
 
 // What was written to `message`, as hex pairs; the number of its refusal, where it was refused.

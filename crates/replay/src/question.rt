@@ -4,6 +4,7 @@ ghost use lib.ListN.{length};
 use crate::channels::answer_channel;
 use crate::leaves::answer_leaf;
 use crate::put::text;
+use crate::sessions::answer_session;
 
 // The place of the first such byte from a place on, or the length.
 pub(crate) fn find(s: &[u8], from: usize, byte: u8) -> usize
@@ -82,7 +83,11 @@ fn asked(word: &[u8], bytes: &[u8], out: &mut [u8]) -> usize {
     if n != 0 {
         return n;
     }
-    answer_channel(word, bytes, out)
+    let n = answer_channel(word, bytes, out);
+    if n != 0 {
+        return n;
+    }
+    answer_session(word, bytes, out)
 }
 
 // The answering line, with its newline, at the start of `out`; its length.

@@ -178,7 +178,7 @@ fn short_lengths(list: &mut Vec<String>, random: &mut Random, word: &str) {
 }
 
 /// Every value of each byte, while the others stay.
-fn each_byte(list: &mut Vec<String>, word: &str, background: &[u8]) {
+pub fn each_byte(list: &mut Vec<String>, word: &str, background: &[u8]) {
     for place in 0..background.len() {
         let mut data = background.to_vec();
         for value in 0..=u8::MAX {
@@ -262,7 +262,7 @@ fn info(data: &[u8]) -> String {
 }
 
 /// The data of the command that is made for the channel of this number.
-fn request<C: Into<Message>>(number: u8, command: fn(Channel) -> C) -> String {
+pub fn request<C: Into<Message>>(number: u8, command: impl Fn(Channel) -> C) -> String {
     match Channel::new(number) {
         Some(channel) => bytes::hex(command(channel).into().data()),
         None => "refused 6".to_string(),
@@ -270,7 +270,7 @@ fn request<C: Into<Message>>(number: u8, command: fn(Channel) -> C) -> String {
 }
 
 /// The crate reads no requests, but it can be asked for all that it writes.
-fn read(data: &[u8], commands: impl Iterator<Item = (String, Message)>) -> String {
+pub fn read(data: &[u8], commands: impl Iterator<Item = (String, Message)>) -> String {
     let mut found = commands.filter(|(_, message)| message.data() == data);
     match (found.next(), found.next()) {
         (Some((command, _)), None) => command,
@@ -293,7 +293,7 @@ fn info_commands() -> impl Iterator<Item = (String, Message)> {
     channels().map(|channel| (channel.to_string(), GetChannelInfo::new(channel).into()))
 }
 
-fn channels() -> impl Iterator<Item = Channel> {
+pub fn channels() -> impl Iterator<Item = Channel> {
     (0..=u8::MAX).filter_map(Channel::new)
 }
 

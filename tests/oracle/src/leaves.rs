@@ -23,7 +23,7 @@ const WORDS: [&str; 9] = [
 ];
 
 /// The numbers that name an authentication type.
-const AUTH_TYPES: [u8; 4] = [0, 1, 2, 4];
+pub const AUTH_TYPES: [u8; 4] = [0, 1, 2, 4];
 
 /// Few enough to ask all there are.
 pub fn questions(list: &mut Vec<String>) {

@@ -8,6 +8,7 @@ mod bytes;
 mod channel;
 mod form;
 mod leaves;
+mod session;
 
 use std::panic::catch_unwind;
 
@@ -17,6 +18,7 @@ pub fn questions() -> Vec<String> {
     leaves::questions(&mut list);
     form::questions(&mut list);
     channel::questions(&mut list);
+    session::questions(&mut list);
     list
 }
 
@@ -32,5 +34,7 @@ pub fn answer(line: &[u8]) -> String {
 /// Asks the groups in turn; none of them knows a bad question.
 fn ask(line: &[u8]) -> Option<String> {
     let (word, data) = form::read(line)?;
-    leaves::answer(word, &data).or_else(|| channel::answer(word, &data))
+    leaves::answer(word, &data)
+        .or_else(|| channel::answer(word, &data))
+        .or_else(|| session::answer(word, &data))
 }

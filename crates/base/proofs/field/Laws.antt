@@ -1,16 +1,17 @@
 -- Laws of a field: what `bits` of src/field.rt meets at each position and width.
-use mathlib.Core.Path.{_≡_, refl, sym, _∙_}
+use mathlib.Core.Path.{_≡_, refl, sym, _∙_, ap}
 use Prim.Native.Nat.{ℕ, zero, suc, _+_, _*_, _/_, _%_, _^_, _<_, _≤_}
 use mathlib.Core.Bool.{Bool, true, false}
 use mathlib.Core.List.{List, [], _∷_}
 use borrow.Author.Tests.{ltb-true, ltb-false}
 use mir.Val.{boolByte}
+use lib.ListN.{length}
 use lib.Dec.{lit<, lit≤, eqb, ltb}
 use lib.Bits.{bitOr, or-shifted-r}
 use native.Mathlib.Nat.{add-comm, div-eq-of-lt, mod-eq-of-lt, zero-mod, one-mul, lt-of-lt-of-le, lt-of-le-of-lt}
 use native.Mathlib.Omega.{arith}
 use lib.Pow.{pow-mono, pow-lt, pow-pos, shr-le, shl-exact}
-use Rattle.base.specs.Field.{bits, flag, flags, raised}
+use Rattle.base.specs.Field.{bits, byte, flag, flags, raised}
 use Rattle.base.specs.Outcome.{accepted}
 
 -- a byte has no bit above 7
@@ -108,3 +109,21 @@ none-of n (suc k) p = let h = none-of n k (p .0) in let ne = p .1 in omega arith
 -- k is the number of m, and so is n
 pub same : {A : Type 0} (read : ℕ → A) (bound k n : ℕ) {m : A} → k < bound → read k ≡ m → accepted k ≡ accepted n → (n < bound) × (read n ≡ m)
 same read bound k n h g e = let z : k ≡ n = cc in rw (← z) (h, g)
+
+-- A list is its bytes, one by one.
+
+abbrev pub spelled : ℕ → ℕ → List ℕ → List ℕ
+spelled at zero s = []
+spelled at (suc k) s = byte at s ∷ spelled (suc at) k s
+
+shifted : (a : ℕ) (s : List ℕ) (at k : ℕ) → spelled (suc at) k (a ∷ s) ≡ spelled at k s
+shifted a s at zero = refl
+shifted a s at (suc k) = ap (λ t. byte at s ∷ t) (shifted a s (suc at) k)
+
+spelt : (s : List ℕ) → spelled 0 (length s) s ≡ s
+spelt [] = refl
+spelt (a ∷ s) = ap (λ t. a ∷ t) (shifted a s 0 (length s) ∙ spelt s)
+
+-- one of k bytes is byte 0, byte 1 and so on to byte k - 1
+pub so-long : (s : List ℕ) (k : ℕ) → length s ≡ k → spelled 0 k s ≡ s
+so-long s k h = rw (← h) (spelt s)

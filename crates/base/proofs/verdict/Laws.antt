@@ -21,8 +21,12 @@ verdict-one : OneToOne saidVerdict
 verdict-one = heard saidVerdict (elim [ accepted x ↦ Accepted | refused k v ↦ Refused (named (k, v)) ]) (elim [ Accepted ↦ refl | Refused r ↦ ap Refused (named-row r) ])
 
 -- the verdict and the record are fixed
-pub same-verdict : {A : Type 0} {outcome : Outcome A} {empty g g′ : A} {v v′ : Verdict} → Gives outcome empty v g → Gives outcome empty v′ g′ → v ≡ v′
+same-verdict : {A : Type 0} {outcome : Outcome A} {empty g g′ : A} {v v′ : Verdict} → Gives outcome empty v g → Gives outcome empty v′ g′ → v ≡ v′
 same-verdict {v} {v′} p q = verdict-one v v′ (p .says ∙ sym (q .says))
 
-pub same-record : {A : Type 0} {outcome : Outcome A} {empty g g′ : A} {v v′ : Verdict} → Gives outcome empty v g → Gives outcome empty v′ g′ → g ≡ g′
+same-record : {A : Type 0} {outcome : Outcome A} {empty g g′ : A} {v v′ : Verdict} → Gives outcome empty v g → Gives outcome empty v′ g′ → g ≡ g′
 same-record p q = p .holds ∙ sym (q .holds)
+
+-- so an answer that is made of the two is fixed
+pub beside : {X A : Type 0} (make : Verdict → A → X) {outcome : Outcome A} {empty g g′ : A} {v v′ : Verdict} → Gives outcome empty v g → Gives outcome empty v′ g′ → make v g ≡ make v′ g′
+beside make p q = rw (same-verdict p q, same-record p q)

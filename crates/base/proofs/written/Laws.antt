@@ -44,6 +44,13 @@ pub placed : {message buffer after : List ℕ} {r : Written} → Writes (accepte
 unfolding written lengthOf over
 placed {message} {buffer} w h = w .leaves ∙ simp (le-ltb (length buffer) (length message) h)
 
+-- a buffer that is filled whole
+pub filled : {message buffer after : List ℕ} {r : Written} → Writes (accepted message) r buffer after → length message ≡ length buffer → after ≡ message
+filled {message} {buffer} w h =
+    let l : length message ≤ length buffer = omega arith in
+    let g : length buffer ≤ length message = omega arith in
+    placed w l ∙ rw (drop-of-length-le buffer g, append-nil)
+
 -- two parts: the second is written to what the first left behind it
 module _ (first second d : List ℕ) (fits : length first + length second ≤ length d) where
   abbrev behind : List ℕ

@@ -26,7 +26,7 @@ use Rattle.channel.specs.declared.get_channel_access.ChannelPrivilegeLev
 use Rattle.channel.specs.declared.get_channel_access.GetChannelAccess.{GetChannelAccess}
 use Rattle.base.proofs.Outcome.{apart, Only, only-steps, no-form, ranged, only-ranged}
 use Rattle.base.proofs.connection.Laws.{channel-iff, no-channel-form}
-use Rattle.base.proofs.field.Laws.{below, bit-small, is-set, same, set-bit}
+use Rattle.base.proofs.field.Laws.{below, bit-small, is-set, same, set-bit, so-long}
 
 -- Modes and limits: a number that is read is written again, and what is written is read again.
 
@@ -138,12 +138,6 @@ access-no-form a = no-form (accessBytes a) (λ s. accessOf s ≡ accepted a) (ac
 
 -- The command.
 
-two : (s : List ℕ) → length s ≡ 2 → s ≡ byte 0 s ∷ byte 1 s ∷ []
-two [] h = absurd (omega arith)
-two (a ∷ []) h = absurd (omega arith)
-two (a ∷ b ∷ []) h = refl
-two (a ∷ b ∷ c ∷ s) h = absurd (omega arith)
-
 type-iff : (n : ℕ) (t : ChannelAccessType) → typeOf n ≡ accepted t ↔ typeByte t ≡ n
 type-iff n t = (go (eqb n 0x40) (eqb n 0x80) refl refl, back t)
   where
@@ -169,7 +163,7 @@ command-iff s k = (go (eqb (length s) 2) (channelOf (byte 0 s)) (typeOf (byte 1 
         let z : command c t ≡ k = cc in
         let b0 = channel-iff (byte 0 s) c .0 q in
         let b1 = type-iff (byte 1 s) t .0 r in
-        rw (← z, b0, b1, ← two s (eqb-true (length s) 2 p))
+        rw (← z, b0, b1, so-long s 2 (eqb-true (length s) 2 p))
 
     back : (x : Outcome ℕ) → channelField (k .channel) ≡ x → (x >>= λ n. accepted (n ∷ typeByte (k .«access_type») ∷ [])) ≡ accepted s → commandOf s ≡ accepted k
     back (refused n v) p e = absurd (apart e)

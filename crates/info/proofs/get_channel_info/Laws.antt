@@ -16,7 +16,7 @@ use Rattle.base.specs.Outcome.{Outcome, accepted, refused, _>>=_, faultsAs}
 use Rattle.base.specs.declared.connection.Channel.{Channel}
 use Rattle.base.proofs.Outcome.{apart, steps, Only, only-steps, no-form, inside, ranged, only-ranged}
 use Rattle.base.proofs.connection.Laws.{channel-iff, channel-small, begins-only, no-channel-form}
-use Rattle.base.proofs.field.Laws.{below, same}
+use Rattle.base.proofs.field.Laws.{below, same, so-long}
 use Rattle.base.proofs.little.Laws.{Bytes, a-byte, bytes-are, number-back}
 use Rattle.info.specs.GetChannelInfo.{command, commandBytes, commandOf, infoBytes, infoFields, infoOf, mediums, mediumField, mediumOf, protocols, protocolField, protocolOf, sessions, sessionField, sessionOf}
 use Rattle.info.specs.declared.get_channel_info.ChannelInfo.{ChannelInfo}
@@ -260,11 +260,6 @@ info-no-form i b = no-form (infoBytes i) (λ s. Bytes s × (infoOf s ≡ accepte
 
 -- The command.
 
-one : (s : List ℕ) → length s ≡ 1 → s ≡ byte 0 s ∷ []
-one [] h = absurd (omega arith)
-one (a ∷ []) h = refl
-one (a ∷ b ∷ s) h = absurd (omega arith)
-
 -- "Request readers accept exactly the byte strings that some command of its kind writes", and give that command.
 pub command-iff : (s : List ℕ) (k : GetChannelInfo) → commandOf s ≡ accepted k ↔ commandBytes k ≡ accepted s
 command-iff s k = (go (eqb (length s) 1) (channelOf (byte 0 s)) refl refl, back (channelField (k .channel)) refl)
@@ -273,7 +268,7 @@ command-iff s k = (go (eqb (length s) 1) (channelOf (byte 0 s)) refl refl, back 
         → (if b then faultsAs 10 (x >>= λ c. accepted (command c)) else refused 10 []) ≡ accepted k → commandBytes k ≡ accepted s
     go false x p q e = absurd (apart e)
     go true (refused n v) p q e = absurd (apart e)
-    go true (accepted c) p q e = let z : command c ≡ k = cc in rw (← z, channel-iff (byte 0 s) c .0 q, ← one s (eqb-true (length s) 1 p))
+    go true (accepted c) p q e = let z : command c ≡ k = cc in rw (← z, channel-iff (byte 0 s) c .0 q, so-long s 1 (eqb-true (length s) 1 p))
 
     back : (x : Outcome ℕ) → channelField (k .channel) ≡ x → (x >>= λ n. accepted (n ∷ [])) ≡ accepted s → commandOf s ≡ accepted k
     back (refused n v) p e = absurd (apart e)

@@ -1,0 +1,3 @@
+pub mod ActivateSession
+pub mod GetSessionChallenge
+pub mod Session
