@@ -4,9 +4,12 @@ use mathlib.Core.List.{List, [], _∷_, _++_, map}
 use mathlib.Core.Option.{some}
 use lib.ListN.{replicate}
 use Rattle.auth.specs.Auth.{privilegeOf}
+use Rattle.auth.specs.GetChannelAuthenticationCapabilities as Capabilities
+use Rattle.auth.specs.GetChannelAuthenticationCapabilities.{capabilitiesOf}
 use Rattle.auth.specs.declared.PrivilegeLevel.the-variants.{Administrator}
 use Rattle.base.specs.Connection.{channelOf}
 use Rattle.base.specs.Outcome.{accepted, refused}
+use Rattle.base.specs.Verdict.{verdictOf}
 use Rattle.base.specs.declared.connection.Channel.the-variants.{Current, Numbered}
 use Rattle.channel.specs.GetChannelAccess.{command, commandBytes}
 use Rattle.channel.specs.declared.get_channel_access.ChannelAccessType.the-variants.{NonVolatile}
@@ -30,8 +33,13 @@ examples =
     -- P2
     ∷ (channelOf 0x0E gives accepted Current)
     ∷ (channelOf 0x10 gives refused 6 [])
+    -- P4
+    ∷ (Capabilities.commandBytes (Capabilities.command (Numbered (record { 0 = 1 })) Administrator) gives accepted (0x81 ∷ 0x04 ∷ []))
     -- P5
     ∷ (commandBytes (command Current NonVolatile) gives accepted (0x0E ∷ 0x40 ∷ []))
+    -- P6
+    ∷ (verdictOf (capabilitiesOf (1 ∷ 0x16 ∷ replicate 5 0)) gives accepted tt)
+    ∷ (verdictOf (capabilitiesOf (1 ∷ 0x96 ∷ replicate 5 0)) gives refused 1 [])
     -- P7
     ∷ (challengeOf (replicate 21 1) gives refused 1 [])
     ∷ (challengeOf (replicate 4 0 ++ replicate 16 1) gives refused 3 [])

@@ -13,6 +13,7 @@ use base::little::number3;
 use base::refusal::Refusal;
 use base::text::coded;
 use base::written::Written;
+use base::written::join;
 use base::written::place;
 
 pub struct GetChannelInfo {
@@ -146,20 +147,9 @@ impl ChannelInfo {
         let low = (vendor % 256) as u8;
         let middle = (vendor / 256 % 256) as u8;
         let high = (vendor / 256 / 256 % 256) as u8;
-        place(
-            &[
-                channel,
-                medium,
-                protocol,
-                sessions,
-                low,
-                middle,
-                high,
-                aux.byte1,
-                aux.byte2,
-            ],
-            out,
-        )
+        let head = [channel, medium, protocol, sessions];
+        let rest = [low, middle, high, aux.byte1, aux.byte2];
+        join(&head, &rest, out)
     }
 }
 

@@ -59,11 +59,15 @@ fn best(c: ChannelAuthenticationCapabilities, at: usize, out: &mut [u8]) -> usiz
 }
 
 fn extended(c: ChannelAuthenticationCapabilities, at: usize, out: &mut [u8]) -> usize {
-    let id = c.oem_id;
     let at = flag(b", anonymous ", c.anonymous_login_enabled, at, out);
     let at = flag(b", v2 ", c.ipmi2_connections_supported, at, out);
     let at = flag(b", v15 ", c.ipmi15_connections_supported, at, out);
     let at = text(b", id ", at, out);
+    identity(c, at, out)
+}
+
+fn identity(c: ChannelAuthenticationCapabilities, at: usize, out: &mut [u8]) -> usize {
+    let id = c.oem_id;
     let at = pairs_at(&id, at, out);
     best(c, at, out)
 }
@@ -187,7 +191,10 @@ fn name_of(command: GetSessionChallenge, at: usize, out: &mut [u8]) -> usize {
     let Written::Length(n) = written else {
         return 0;
     };
-    if n == 0 || 16 < n {
+    if n == 0 {
+        return at;
+    }
+    if 16 < n {
         return at;
     }
     let at = text(b" ", at, out);

@@ -6,7 +6,7 @@ use Rattle.base.specs.Choice.{if_then_else_, _<?_, _=?_}
 use Rattle.base.specs.Field.{byte}
 use Rattle.base.specs.Little.{little, littleBytes}
 use Rattle.base.specs.Named.{required}
-use Rattle.base.specs.Outcome.{Outcome, accepted, refused, _>>=_, faultsAs}
+use Rattle.base.specs.Outcome.{Outcome, accepted, refused, _>>=_}
 use Rattle.auth.specs.Auth.{authTypeOf, authTypeValue}
 use Rattle.session.specs.Session.{nonZero}
 use Rattle.auth.specs.declared.AuthType.{AuthType}

@@ -14,7 +14,7 @@ use lib.Seq.{take-all, drop-cons}
 use Rattle.base.specs.Choice.{if_then_else_}
 use Rattle.base.specs.Field.{byte}
 use Rattle.base.specs.Little.{little, littleBytes}
-use Rattle.base.specs.Outcome.{Outcome, accepted, refused, _>>=_}
+use Rattle.base.specs.Outcome.{accepted, refused, _>>=_}
 use Rattle.base.specs.Written.{Writes}
 use Rattle.base.specs.declared.written.Written.{Written}
 use Rattle.base.proofs.Outcome.{apart, Only, no-form}

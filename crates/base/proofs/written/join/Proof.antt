@@ -1,8 +1,8 @@
 use borrow.Author.Needs.{needs}
 use native.Mathlib.Omega.{arith}
 use mathlib.Core.List.{_++_}
-use lib.ListN.{length, length-append}
-use Rattle.base.proofs.written.Laws.{lacking, fitting, placed, joined}
+use lib.ListN.{length-append}
+use Rattle.base.proofs.written.Laws.{lacking, fitting, joined}
 use Rattle.base.proofs.written.join.Statement.{statement}
 use Rattle.base.proofs.written.join.Tie as tie
 
