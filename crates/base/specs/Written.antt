@@ -1,8 +1,8 @@
 -- What a writer answers, and what it leaves in the lent buffer.
-use Prim.Native.Nat.{ℕ}
+use Prim.Native.Nat.{ℕ, _-_}
 use mathlib.Core.Path.{_≡_}
 use mathlib.Core.List.{List, [], _++_}
-use lib.ListN.{length, drop}
+use lib.ListN.{length, drop, replicate}
 use Rattle.base.specs.Choice.{if_then_else_, _<?_}
 use Rattle.base.specs.Outcome.{Outcome, accepted, refused, _>>=_}
 use Rattle.base.specs.Refusal.{refusal}
@@ -28,6 +28,10 @@ lengthOf message = do
 unfoldable pub over : List ℕ → Outcome (List ℕ) → List ℕ
 over buffer (accepted bytes) = bytes ++ drop (length bytes) buffer
 over buffer (refused number carried) = buffer
+
+-- a list in so many places: zeros stand behind it
+abbrev pub padded : ℕ → List ℕ → List ℕ
+padded width list = list ++ replicate (width - length list) 0
 
 -- The promise of every writer of a message: its answer, and the buffer before and after.
 pub record Writes (message : Outcome (List ℕ)) (answer : Written) (before after : List ℕ) : Type 0 where

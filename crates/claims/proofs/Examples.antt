@@ -15,6 +15,7 @@ use Rattle.channel.specs.GetChannelAccess.{command, commandBytes}
 use Rattle.channel.specs.declared.get_channel_access.ChannelAccessType.the-variants.{NonVolatile}
 use Rattle.session.specs.ActivateSession.{beginOf}
 use Rattle.session.specs.GetSessionChallenge.{challengeOf}
+use Rattle.suites.specs.GetChannelCipherSuites as Suites
 
 infix 5 _gives_
 pub record Row : Type 1 where
@@ -33,6 +34,9 @@ examples =
     -- P2
     ∷ (channelOf 0x0E gives accepted Current)
     ∷ (channelOf 0x10 gives refused 6 [])
+    -- P3
+    ∷ (Suites.commandBytes (Suites.command (Numbered (record { 0 = 1 })) 2) gives accepted (0x01 ∷ 0x00 ∷ 0x02 ∷ []))
+    ∷ (Suites.commandFor 1 0x40 gives refused 7 [])
     -- P4
     ∷ (Capabilities.commandBytes (Capabilities.command (Numbered (record { 0 = 1 })) Administrator) gives accepted (0x81 ∷ 0x04 ∷ []))
     -- P5

@@ -1,5 +1,5 @@
 -- Get Session Challenge. Document 01, refusals 1, 3 and 8, "The name is padded with zeros and shown up to its first zero"; IPMI 2.0, 22.16.
-use Prim.Native.Nat.{ℕ, _-_}
+use Prim.Native.Nat.{ℕ}
 use mathlib.Core.List.{List, [], _∷_, _++_}
 use lib.ListN.{length, drop, replicate}
 use Rattle.base.specs.Choice.{if_then_else_, _<?_, _=?_}
@@ -7,6 +7,7 @@ use Rattle.base.specs.Field.{byte}
 use Rattle.base.specs.Little.{little, littleBytes}
 use Rattle.base.specs.Named.{required}
 use Rattle.base.specs.Outcome.{Outcome, accepted, refused, _>>=_}
+use Rattle.base.specs.Written.{padded}
 use Rattle.auth.specs.Auth.{authTypeOf, authTypeValue}
 use Rattle.session.specs.Session.{nonZero}
 use Rattle.auth.specs.declared.AuthType.{AuthType}
@@ -23,12 +24,9 @@ command kind name = record { «auth_type» = kind; username = name }
 abbrev pub noCommand : GetSessionChallenge
 noCommand = command None (replicate 16 0)
 
--- "padded with zeros"
-abbrev pub padded : List ℕ → List ℕ
-padded name = name ++ replicate (16 - length name) 0
-
+-- the name "padded with zeros"
 abbrev pub commandFor : AuthType → List ℕ → Outcome GetSessionChallenge
-commandFor kind name = if 16 <? length name then refused 8 [] else accepted (command kind (padded name))
+commandFor kind name = if 16 <? length name then refused 8 [] else accepted (command kind (padded 16 name))
 
 abbrev pub commandBytes : GetSessionChallenge → List ℕ
 commandBytes c = authTypeValue (c .«auth_type») ∷ c .username

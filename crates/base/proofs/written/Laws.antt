@@ -1,17 +1,17 @@
 -- Laws of writing to the start of a lent buffer.
 use mathlib.Core.Path.{_≡_, refl, _∙_}
 use mathlib.Core.List.{List, _++_, append-nil, append-assoc}
-use Prim.Native.Nat.{ℕ, _+_, _-_, _<_, _≤_}
+use Prim.Native.Nat.{ℕ, zero, suc, _+_, _-_, _<_, _≤_}
 use native.Mathlib.Numerals.{add-one}
 use native.Mathlib.Nat.{zero-add}
 use native.Mathlib.Omega.{arith}
 use borrow.Author.Tests.{lt-ltb, le-ltb}
 use borrow.Rule.Slice.PartMut.{midOf, putMid}
-use lib.ListN.{length, getD, drop, set, length-append, length-drop, drop-of-length-le}
+use lib.ListN.{length, getD, drop, set, replicate, length-replicate, length-append, length-drop, drop-of-length-le}
 use lib.Seq.{paste, paste-suc, take-length, take-all, drop-append-seam, take-append-seam, drop-drop}
 use Rattle.base.specs.Outcome.{Outcome, accepted}
 use Rattle.base.specs.Refusal.{refusal}
-use Rattle.base.specs.Written.{Writes, written, lengthOf, over}
+use Rattle.base.specs.Written.{Writes, written, lengthOf, over, padded}
 use Rattle.base.specs.declared.refusal.Refusal.{Refusal}
 use Rattle.base.specs.declared.refusal.Refusal.the-variants.{NoRoom}
 use Rattle.base.specs.declared.written.Written.{Written}
@@ -50,6 +50,15 @@ filled {message} {buffer} w h =
     let l : length message ≤ length buffer = omega arith in
     let g : length buffer ≤ length message = omega arith in
     placed w l ∙ rw (drop-of-length-le buffer g, append-nil)
+
+drop-zeros : (k n : ℕ) → drop {A = ℕ} k (replicate n 0) ≡ replicate (n - k) 0
+drop-zeros zero n = let z : n - 0 ≡ n = omega arith in rw z
+drop-zeros (suc k) zero = let z : 0 - suc k ≡ 0 = omega arith in rw z
+drop-zeros (suc k) (suc n) = let z : suc n - suc k ≡ n - k = omega arith in rw z (drop-zeros k n)
+
+-- zeros that a message was written over
+pub padding : (width : ℕ) {message after : List ℕ} {r : Written} → length message ≤ width → Writes (accepted message) r (replicate width 0) after → after ≡ padded width message
+padding width {message} h w = placed w (rw (length-replicate {A = ℕ} width 0) h) ∙ rw (drop-zeros (length message) width)
 
 -- two parts: the second is written to what the first left behind it
 module _ (first second d : List ℕ) (fits : length first + length second ≤ length d) where

@@ -15,27 +15,22 @@ use Rattle.base.specs.Choice.{if_then_else_}
 use Rattle.base.specs.Field.{byte}
 use Rattle.base.specs.Little.{little, littleBytes}
 use Rattle.base.specs.Outcome.{accepted, refused, _>>=_}
-use Rattle.base.specs.Written.{Writes}
+use Rattle.base.specs.Written.{Writes, padded}
 use Rattle.base.specs.declared.written.Written.{Written}
 use Rattle.base.proofs.Outcome.{apart, Only, no-form}
 use Rattle.base.proofs.little.Laws.{number-back}
-use Rattle.base.proofs.written.Laws.{filled, placed}
+use Rattle.base.proofs.written.Laws.{filled, padding}
 use Rattle.auth.specs.Auth.{authTypeOf, authTypeValue}
-use Rattle.session.specs.GetSessionChallenge.{challenge, challengeBytes, challengeOf, command, commandBytes, commandFor, commandOf, padded, shown}
+use Rattle.session.specs.GetSessionChallenge.{challenge, challengeBytes, challengeOf, command, commandBytes, commandFor, commandOf, shown}
 use Rattle.session.specs.Session.{nonZero}
 use Rattle.auth.specs.declared.AuthType.{AuthType}
 use Rattle.session.specs.declared.get_session_challenge.GetSessionChallenge.{GetSessionChallenge}
 use Rattle.session.specs.declared.get_session_challenge.SessionChallenge.{SessionChallenge}
 use Rattle.auth.proofs.Laws.{auth-type-iff}
 
-drop-zeros : (k n : ℕ) → drop {A = ℕ} k (replicate n 0) ≡ replicate (n - k) 0
-drop-zeros zero n = let z : n - 0 ≡ n = omega arith in rw z
-drop-zeros (suc k) zero = let z : 0 - suc k ≡ 0 = omega arith in rw z
-drop-zeros (suc k) (suc n) = let z : suc n - suc k ≡ n - k = omega arith in rw z (drop-zeros k n)
-
 -- a name that was written over sixteen zeros
 pub made : (kind : AuthType) (name after : List ℕ) {r : Written} → length name ≤ 16 → Writes (accepted name) r (replicate 16 0) after → commandFor kind name ≡ accepted (command kind after)
-made kind name after h w = rw (le-ltb 16 (length name) h, placed w (rw (length-replicate {A = ℕ} 16 0) h), drop-zeros (length name) 16)
+made kind name after h w = rw (le-ltb 16 (length name) h, padding 16 h w)
 
 -- sixteen bytes that were written over sixteen zeros
 pub sixteen : (part after : List ℕ) {r : Written} → length part ≡ 16 → Writes (accepted part) r (replicate 16 0) after → after ≡ part
@@ -113,7 +108,7 @@ made-sixteen kind name k e = go (ltb 16 (length name)) refl
     go true p = absurd (apart (rw p at e))
     go false p =
         let f = rw p at e in
-        let z : command kind (padded name) ≡ k = cc in
+        let z : command kind (padded 16 name) ≡ k = cc in
         let h = ltb-false 16 (length name) p in
         rw (← z, length-append, length-replicate) (omega arith)
 

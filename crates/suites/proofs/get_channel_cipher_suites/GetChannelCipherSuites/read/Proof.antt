@@ -1,0 +1,53 @@
+use borrow.Author.Needs.{needs}
+use borrow.Author.Tests.{eq-eqb, ne-eqb, lt-ltb, le-ltb}
+use native.Mathlib.Omega.{arith}
+use lib.ListN.{length}
+use Rattle.base.specs.Field.{byte}
+use Rattle.suites.specs.Collector.{lastIndex}
+use Rattle.suites.proofs.get_channel_cipher_suites.GetChannelCipherSuites.read.Statement.{statement}
+use Rattle.suites.proofs.get_channel_cipher_suites.GetChannelCipherSuites.read.Tie as tie
+
+returns : tie.Need-returns
+returns c = simp (ne-eqb (length (c .before .before .args .request .now)) 3 (λ h. omega arith))
+
+returns-2 : tie.Need-returns-2
+returns-2 c =
+    let n = c .before .before in
+    let s = c .before .before .before .before .before .before .args .request .now in
+    simp (eq-eqb (length s) 3 (omega arith), ← n .new .ensures, c .enum-told .given .1)
+
+returns-3 : tie.Need-returns-3
+returns-3 c =
+    let k = c .before .before .before in
+    let s = c .before .before .before .before .before .before .before .before .before .args .request .now in
+    simp (eq-eqb (length s) 3 (omega arith), ← k .before .before .new .ensures, k .channel .given .1, ne-eqb (byte 1 s) 0 (λ h. omega arith))
+
+returns-4 : tie.Need-returns-4
+returns-4 c =
+    let k = c .before .before .before .before .before in
+    let s = c .before .before .before .before .before .before .before .before .before .before .before .args .request .now in
+    simp
+    (eq-eqb (length s) 3 (omega arith), ← k .before .before .new .ensures, k .channel .given .1, eq-eqb (byte 1 s) 0 (omega arith), lt-ltb lastIndex (byte 2 s) (omega arith))
+
+returns-5 : tie.Need-returns-5
+returns-5 c =
+    let k = c .before .before .before .before .before in
+    let s = c .before .before .before .before .before .before .before .before .before .before .before .args .request .now in
+    simp
+    (eq-eqb (length s) 3 (omega arith), ← k .before .before .new .ensures, k .channel .given .1, eq-eqb (byte 1 s) 0 (omega arith), le-ltb lastIndex (byte 2 s) (omega arith))
+
+pub read-spec : {M : Type 1} → statement M
+read-spec =
+    tie.close
+    (tie.spec
+    returns
+    (search needs)
+    (search needs)
+    (search needs)
+    (search needs)
+    returns-2
+    (search needs)
+    returns-3
+    (search needs)
+    returns-4
+    returns-5)

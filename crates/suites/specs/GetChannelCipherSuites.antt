@@ -1,0 +1,157 @@
+-- Get Channel Cipher Suites. Document 01, "Suites"; IPMI 2.0, Table 22-17.
+use Prim.Native.Nat.{ℕ, suc}
+use mathlib.Core.Bool.{Bool, true, false}
+use mathlib.Core.List.{List, [], _∷_, map}
+use mathlib.Core.Option.{Option, none, some}
+use lib.ListN.{length, take, drop}
+use Rattle.auth.specs.Algorithms as Algorithms
+use Rattle.auth.specs.declared.algorithms.AuthenticationAlgorithm.{AuthenticationAlgorithm}
+use Rattle.auth.specs.declared.algorithms.ConfidentialityAlgorithm.{ConfidentialityAlgorithm}
+use Rattle.auth.specs.declared.algorithms.IntegrityAlgorithm.{IntegrityAlgorithm}
+use Rattle.base.specs.Choice.{if_then_else_, _<?_, _=?_}
+use Rattle.base.specs.Connection.{channelOf, channelField}
+use Rattle.base.specs.Field.{byte, within}
+use Rattle.base.specs.Named.{named}
+use Rattle.base.specs.Outcome.{Outcome, accepted, refused, _>>=_, faultsAs}
+use Rattle.base.specs.Refusal.{refusal}
+use Rattle.base.specs.Written.{padded}
+use Rattle.base.specs.declared.connection.Channel.{Channel}
+use Rattle.suites.specs.Collector.{lastIndex, partLength}
+use Rattle.suites.specs.declared.get_channel_cipher_suites.ChannelCipherSuites.{ChannelCipherSuites}
+use Rattle.suites.specs.declared.get_channel_cipher_suites.CipherSuite.{CipherSuite}
+use Rattle.suites.specs.declared.get_channel_cipher_suites.CommandAnswer.{CommandAnswer}
+use Rattle.suites.specs.declared.get_channel_cipher_suites.CommandAnswer.the-variants.{Command, Refused}
+use Rattle.suites.specs.declared.get_channel_cipher_suites.GetChannelCipherSuites.{GetChannelCipherSuites}
+use Rattle.suites.specs.declared.get_channel_cipher_suites.Row.{Row}
+use Rattle.suites.specs.declared.get_channel_cipher_suites.RowAnswer.{RowAnswer}
+use Rattle.suites.specs.declared.get_channel_cipher_suites.RowAnswer.the-variants as RowAnswers
+use Rattle.suites.specs.declared.get_channel_cipher_suites.SuiteAnswer.{SuiteAnswer}
+use Rattle.suites.specs.declared.get_channel_cipher_suites.SuiteAnswer.the-variants as SuiteAnswers
+
+abbrev pub saidCommand : CommandAnswer → Outcome GetChannelCipherSuites
+saidCommand (Command command) = accepted command
+saidCommand (Refused r) = refusal r
+
+-- The request: the channel, payload type 0, and the index, bit 7 above it clear.
+
+abbrev pub command : Channel → ℕ → GetChannelCipherSuites
+command channel index = record { channel = channel; «list_index» = index }
+
+abbrev pub commandOn : Channel → ℕ → Outcome GetChannelCipherSuites
+commandOn channel index = if lastIndex <? index then refused 7 [] else accepted (command channel index)
+
+-- made for a channel that is given as a number: "6, then 7"
+abbrev pub commandFor : ℕ → ℕ → Outcome GetChannelCipherSuites
+commandFor number index = do
+  channel ← channelOf number
+  commandOn channel index
+
+abbrev pub commandBytes : GetChannelCipherSuites → Outcome (List ℕ)
+commandBytes c = do
+  channel ← channelField (c .channel)
+  index ← within 0 lastIndex (c .«list_index»)
+  accepted (channel ∷ 0 ∷ index ∷ [])
+
+-- "a request reader turns every fault into 10"
+abbrev pub commandOf : List ℕ → Outcome GetChannelCipherSuites
+commandOf request =
+    if length request =? 3 then faultsAs 10 (do
+      channel ← channelOf (byte 0 request)
+      if byte 1 request =? 0 then commandOn channel (byte 2 request) else refused 10 [])
+    else refused 10 []
+
+-- The response: a part of the list, as the Rust reads it.
+
+abbrev pub part : List ℕ → ChannelCipherSuites
+part bytes = record { «data_length» = length bytes; «record_data» = padded partLength bytes }
+
+-- stands beside a refusal
+abbrev pub noSuites : ChannelCipherSuites
+noSuites = part []
+
+abbrev pub suitesOf : List ℕ → Outcome ChannelCipherSuites
+suitesOf response = if partLength <? length response then refused 2 [] else accepted (part response)
+
+unfoldable pub zeros : List ℕ → Bool
+zeros [] = true
+zeros (byte ∷ bytes) = if byte =? 0 then zeros bytes else false
+
+-- 9 for a length above a part's, or a byte beyond the length that is not zero
+abbrev pub suitesBytes : ChannelCipherSuites → Outcome (List ℕ)
+suitesBytes s =
+    if partLength <? s .«data_length» then refused 9 [] else
+    if zeros (drop (s .«data_length») (s .«record_data»)) then accepted (take (s .«data_length») (s .«record_data»)) else refused 9 []
+
+-- The suites.
+
+abbrev pub saidSuite : SuiteAnswer → Outcome (Option CipherSuite)
+saidSuite (SuiteAnswers.Suite suite) = accepted (some suite)
+saidSuite SuiteAnswers.Nothing = accepted none
+
+abbrev pub saidRow : RowAnswer → Outcome (Option Row)
+saidRow (RowAnswers.Row row) = accepted (some row)
+saidRow RowAnswers.Nothing = accepted none
+
+abbrev pub row : ℕ → ℕ → ℕ → Row
+row a i c = record { authentication = a; integrity = i; confidentiality = c }
+
+-- the twenty suites from 0 up, "one digit each for authentication, integrity, confidentiality"
+unfoldable pub suites : List Row
+suites =
+    row 0 0 0 ∷
+    row 1 0 0 ∷
+    row 1 1 0 ∷
+    row 1 1 1 ∷
+    row 1 1 2 ∷
+    row 1 1 3 ∷
+    row 2 0 0 ∷
+    row 2 2 0 ∷
+    row 2 2 1 ∷
+    row 2 2 2 ∷
+    row 2 2 3 ∷
+    row 2 3 0 ∷
+    row 2 3 1 ∷
+    row 2 3 2 ∷
+    row 2 3 3 ∷
+    row 3 0 0 ∷
+    row 3 4 0 ∷
+    row 3 4 1 ∷
+    row 3 4 2 ∷
+    row 3 4 3 ∷
+    []
+
+abbrev pub rowOf : ℕ → Option Row
+rowOf n = named (map some suites) n
+
+abbrev pub suite : ℕ → CipherSuite
+suite n = record { 0 = n }
+
+-- a number that a row stands at
+abbrev pub suiteOf : ℕ → Option CipherSuite
+suiteOf n = if n <? 20 then some (suite n) else none
+
+abbrev pub same : Row → Row → Bool
+same a b = if a .authentication =? b .authentication then (if a .integrity =? b .integrity then a .confidentiality =? b .confidentiality else false) else false
+
+-- the suite of the first row that is r, counted from n
+abbrev pub find : List Row → ℕ → Row → Option CipherSuite
+find [] n r = none
+find (x ∷ rows) n r = if same x r then some (suite n) else find rows (suc n) r
+
+abbrev pub suiteFor : Row → Option CipherSuite
+suiteFor r = find suites 0 r
+
+-- what a column of the suite's row names
+abbrev pub column : {A : Type 0} → (Row → Option A) → Option Row → Option A
+column name none = none
+column name (some r) = name r
+
+abbrev pub authenticationOf : ℕ → Option AuthenticationAlgorithm
+authenticationOf n = column (λ r. Algorithms.authenticationOf (r .authentication)) (rowOf n)
+
+abbrev pub integrityOf : ℕ → Option IntegrityAlgorithm
+integrityOf n = column (λ r. Algorithms.integrityOf (r .integrity)) (rowOf n)
+
+-- "The port reads the third column"
+abbrev pub confidentialityOf : ℕ → Option ConfidentialityAlgorithm
+confidentialityOf n = column (λ r. Algorithms.confidentialityOf (r .confidentiality)) (rowOf n)
