@@ -40,9 +40,6 @@ get-channel-cipher-suites-write-unique κs a ok z z′ w w′ q q′ = writer q 
 pub get-channel-cipher-suites-read-unique : Unique p.get_channel_cipher_suites.GetChannelCipherSuites.read.Kinds.ps p.get_channel_cipher_suites.GetChannelCipherSuites.read.Kinds.r p.get_channel_cipher_suites.GetChannelCipherSuites.read.Reads.Asked p.get_channel_cipher_suites.GetChannelCipherSuites.read.Reads.Learnt
 get-channel-cipher-suites-read-unique κs a ok z z′ w w′ q q′ = (command-one z z′ (both q q′), refl)
 
-pub collector-fresh-unique : Unique p.collector.Collector.fresh.Kinds.ps p.collector.Collector.fresh.Kinds.r p.collector.Collector.fresh.Reads.Asked p.collector.Collector.fresh.Reads.Learnt
-collector-fresh-unique κs a ok z z′ w w′ q q′ = (both q q′, refl)
-
 pub channel-cipher-suites-parse-unique : Unique p.get_channel_cipher_suites.ChannelCipherSuites.parse.Kinds.ps p.get_channel_cipher_suites.ChannelCipherSuites.parse.Kinds.r p.get_channel_cipher_suites.ChannelCipherSuites.parse.Reads.Asked p.get_channel_cipher_suites.ChannelCipherSuites.parse.Reads.Learnt
 channel-cipher-suites-parse-unique κs a ok z z′ w w′ q q′ = (beside (λ verdict suites. record { verdict = verdict; suites = suites }) q q′, refl)
 

@@ -16,7 +16,7 @@ use Rattle.base.specs.Outcome.{Outcome, accepted, refused, _>>=_, faultsAs}
 use Rattle.base.specs.Refusal.{refusal}
 use Rattle.base.specs.Written.{padded}
 use Rattle.base.specs.declared.connection.Channel.{Channel}
-use Rattle.suites.specs.Collector.{lastIndex, partLength}
+use Rattle.collector.specs.Collector.{lastIndex, partLength}
 use Rattle.suites.specs.declared.get_channel_cipher_suites.ChannelCipherSuites.{ChannelCipherSuites}
 use Rattle.suites.specs.declared.get_channel_cipher_suites.CipherSuite.{CipherSuite}
 use Rattle.suites.specs.declared.get_channel_cipher_suites.CommandAnswer.{CommandAnswer}

@@ -6,7 +6,6 @@ ghost use Rattle.base.specs.Outcome.{accepted};
 ghost use Rattle.base.specs.Verdict.{Gives};
 ghost use Rattle.base.specs.Written.{Writes};
 ghost use lib.ListN.{drop, take};
-use crate::collector::Collector;
 use auth::algorithms::AuthenticationAlgorithm;
 use auth::algorithms::AuthenticationAnswer;
 use auth::algorithms::ConfidentialityAlgorithm;
@@ -20,6 +19,7 @@ use base::refusal::Refusal;
 use base::verdict::Verdict;
 use base::written::Written;
 use base::written::place;
+use collector::Collector;
 
 pub struct GetChannelCipherSuites {
     pub channel: Channel,

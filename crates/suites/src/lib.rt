@@ -1,3 +1,2 @@
 // Cipher suites, after ipmi-rs-core 0.6.0.
-pub mod collector;
 pub mod get_channel_cipher_suites;

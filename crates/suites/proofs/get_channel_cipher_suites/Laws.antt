@@ -25,7 +25,7 @@ use Rattle.base.proofs.field.Laws.{below, so-long}
 use Rattle.base.proofs.written.Laws.{padding}
 use Rattle.auth.specs.Algorithms as Algorithms
 use Rattle.suites.specs.GetChannelCipherSuites.{authenticationOf, column, command, commandBytes, commandOf, confidentialityOf, find, integrityOf, part, row, rowOf, same, suite, suiteFor, suiteOf, suites, suitesBytes, suitesOf, zeros}
-use Rattle.suites.specs.Collector.{lastIndex, partLength}
+use Rattle.collector.specs.Collector.{lastIndex, partLength}
 use Rattle.suites.specs.declared.get_channel_cipher_suites.ChannelCipherSuites.{ChannelCipherSuites}
 use Rattle.suites.specs.declared.get_channel_cipher_suites.CipherSuite.{CipherSuite}
 use Rattle.suites.specs.declared.get_channel_cipher_suites.GetChannelCipherSuites.{GetChannelCipherSuites}

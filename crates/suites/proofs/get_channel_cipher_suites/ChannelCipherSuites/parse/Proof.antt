@@ -4,7 +4,7 @@ use native.Mathlib.Omega.{arith}
 use lib.ListN.{length}
 use Rattle.base.specs.declared.refusal.Refusal.the-variants.{TooMuchData}
 use Rattle.base.proofs.verdict.Laws.{giving, refusing}
-use Rattle.suites.specs.Collector.{partLength}
+use Rattle.collector.specs.Collector.{partLength}
 use Rattle.suites.specs.GetChannelCipherSuites.{noSuites}
 use Rattle.suites.proofs.get_channel_cipher_suites.Laws.{response-read}
 use Rattle.suites.proofs.get_channel_cipher_suites.ChannelCipherSuites.parse.Statement.{statement}

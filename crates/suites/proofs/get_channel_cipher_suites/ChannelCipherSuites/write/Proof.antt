@@ -4,7 +4,7 @@ use mathlib.Core.Path.{sym, _∙_}
 use native.Mathlib.Omega.{arith}
 use Rattle.base.specs.declared.refusal.Refusal.the-variants.{NoForm}
 use Rattle.base.proofs.written.Laws.{refusing}
-use Rattle.suites.specs.Collector.{partLength}
+use Rattle.collector.specs.Collector.{partLength}
 use Rattle.suites.proofs.get_channel_cipher_suites.ChannelCipherSuites.write.Statement.{statement}
 use Rattle.suites.proofs.get_channel_cipher_suites.ChannelCipherSuites.write.Tie as tie
 

@@ -1,6 +1,6 @@
 use borrow.Author.Tests.{lt-ltb, le-ltb}
 use native.Mathlib.Omega.{arith}
-use Rattle.suites.specs.Collector.{lastIndex}
+use Rattle.collector.specs.Collector.{lastIndex}
 use Rattle.suites.proofs.get_channel_cipher_suites.GetChannelCipherSuites.new.Statement.{statement}
 use Rattle.suites.proofs.get_channel_cipher_suites.GetChannelCipherSuites.new.Tie as tie
 

@@ -3,7 +3,7 @@ use borrow.Author.Tests.{eq-eqb, ne-eqb, lt-ltb, le-ltb}
 use native.Mathlib.Omega.{arith}
 use lib.ListN.{length}
 use Rattle.base.specs.Field.{byte}
-use Rattle.suites.specs.Collector.{lastIndex}
+use Rattle.collector.specs.Collector.{lastIndex}
 use Rattle.suites.proofs.get_channel_cipher_suites.GetChannelCipherSuites.read.Statement.{statement}
 use Rattle.suites.proofs.get_channel_cipher_suites.GetChannelCipherSuites.read.Tie as tie
 

@@ -3,7 +3,7 @@ use borrow.Author.Tests.{lt-ltb, le-ltb}
 use native.Mathlib.Omega.{arith}
 use Rattle.base.specs.declared.refusal.Refusal.the-variants.{NoForm}
 use Rattle.base.proofs.written.Laws.{refusing}
-use Rattle.suites.specs.Collector.{lastIndex}
+use Rattle.collector.specs.Collector.{lastIndex}
 use Rattle.suites.proofs.get_channel_cipher_suites.GetChannelCipherSuites.write.Statement.{statement}
 use Rattle.suites.proofs.get_channel_cipher_suites.GetChannelCipherSuites.write.Tie as tie
 

@@ -1,6 +1,6 @@
 // Joins a list that arrives a part at a time. So far its numbers and its fresh state.
 ghost use mathlib.Core.Path.{_≡_};
-ghost use Rattle.suites.specs.Collector.{fresh};
+ghost use Rattle.collector.specs.Collector.{fresh};
 
 // The parts that were heard stand at their places among the bytes, zeros elsewhere. A part's mark is 0 where it was
 // not heard, and one more than its length where it was.

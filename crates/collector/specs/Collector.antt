@@ -1,7 +1,7 @@
 -- The collector. Document 01: "It holds up to 64 parts with their lengths; bytes not heard are zero. The numbers 0x3F, 16 and 1,024 belong to the collector".
 use Prim.Native.Nat.{ℕ, _/_}
 use lib.ListN.{replicate}
-use Rattle.suites.specs.declared.collector.Collector.{Collector}
+use Rattle.collector.specs.declared.Collector.{Collector}
 
 abbrev pub lastIndex : ℕ
 lastIndex = 0x3F
