@@ -2,3 +2,4 @@ pub mod Named
 pub mod Outcome
 pub mod Said
 pub mod Unique
+pub mod Walked

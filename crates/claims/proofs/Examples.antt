@@ -1,5 +1,7 @@
 -- Document 01, "Examples at the edges", those marked P: rows of a table under one claim.
 use mathlib.Core.Path.{_≡_, refl}
+use Prim.Native.Nat.{ℕ}
+use mathlib.Core.Bool.{false}
 use mathlib.Core.List.{List, [], _∷_, _++_, map}
 use mathlib.Core.Option.{some}
 use lib.ListN.{replicate}
@@ -16,6 +18,7 @@ use Rattle.channel.specs.declared.get_channel_access.ChannelAccessType.the-vari
 use Rattle.session.specs.ActivateSession.{beginOf}
 use Rattle.session.specs.GetSessionChallenge.{challengeOf}
 use Rattle.suites.specs.GetChannelCipherSuites as Suites
+use Rattle.suites.specs.declared.get_channel_cipher_suites.SuiteAnswer.the-variants.{Nothing, Suite}
 
 infix 5 _gives_
 pub record Row : Type 1 where
@@ -25,6 +28,10 @@ pub record Row : Type 1 where
 
 abbrev _gives_ : {A : Type 0} → A → A → Row
 _gives_ {A} what answer = record { of = A; what = what; answer = answer }
+
+-- P10's: an unknown suite's number, then a whole record
+abbrev twoRecords : List ℕ
+twoRecords = 0xC0 ∷ 0x14 ∷ 0xC0 ∷ 0x03 ∷ 0x01 ∷ 0x41 ∷ 0x81 ∷ []
 
 pub examples : List Row
 examples =
@@ -52,8 +59,12 @@ examples =
     -- P9
     ∷ (privilegeOf 0xF4 gives some Administrator)
     ∷ (beginOf (0 ∷ replicate 8 1 ++ 0x06 ∷ []) gives refused 5 (0x06 ∷ []))
+    -- P10
+    ∷ (Suites.stepAfter 0 twoRecords 0 false .answer gives Nothing)
+    ∷ (Suites.stepAfter 1 twoRecords 0 false .answer gives Suite (Suites.suite 3))
+    ∷ (Suites.numbersOf twoRecords gives [])
     ∷ []
 
 pub examples-hold : map (λ (r : Row). r .what gives r .what) examples ≡ map (λ (r : Row). r .what gives r .answer) examples
-unfolding examples
+unfolding examples Suites.stepAfter Suites.upTo
 examples-hold = refl

@@ -1,5 +1,5 @@
 -- Get Channel Cipher Suites. Document 01, "Suites"; IPMI 2.0, Table 22-17.
-use Prim.Native.Nat.{ℕ, suc}
+use Prim.Native.Nat.{ℕ, zero, suc, _+_}
 use mathlib.Core.Bool.{Bool, true, false}
 use mathlib.Core.List.{List, [], _∷_, map}
 use mathlib.Core.Option.{Option, none, some}
@@ -8,6 +8,7 @@ use Rattle.auth.specs.Algorithms as Algorithms
 use Rattle.auth.specs.declared.algorithms.AuthenticationAlgorithm.{AuthenticationAlgorithm}
 use Rattle.auth.specs.declared.algorithms.ConfidentialityAlgorithm.{ConfidentialityAlgorithm}
 use Rattle.auth.specs.declared.algorithms.IntegrityAlgorithm.{IntegrityAlgorithm}
+use denote.Ref.{now}
 use Rattle.base.specs.Choice.{if_then_else_, _<?_, _=?_}
 use Rattle.base.specs.Connection.{channelOf, channelField}
 use Rattle.base.specs.Field.{byte, within}
@@ -22,9 +23,11 @@ use Rattle.suites.specs.declared.get_channel_cipher_suites.CipherSuite.{
 use Rattle.suites.specs.declared.get_channel_cipher_suites.CommandAnswer.{CommandAnswer}
 use Rattle.suites.specs.declared.get_channel_cipher_suites.CommandAnswer.the-variants.{Command, Refused}
 use Rattle.suites.specs.declared.get_channel_cipher_suites.GetChannelCipherSuites.{GetChannelCipherSuites}
+use Rattle.suites.specs.declared.get_channel_cipher_suites.Iter.{Iter}
 use Rattle.suites.specs.declared.get_channel_cipher_suites.Row.{Row}
 use Rattle.suites.specs.declared.get_channel_cipher_suites.RowAnswer.{RowAnswer}
 use Rattle.suites.specs.declared.get_channel_cipher_suites.RowAnswer.the-variants as RowAnswers
+use Rattle.suites.specs.declared.get_channel_cipher_suites.Step.{Step}
 use Rattle.suites.specs.declared.get_channel_cipher_suites.SuiteAnswer.{SuiteAnswer}
 use Rattle.suites.specs.declared.get_channel_cipher_suites.SuiteAnswer.the-variants as SuiteAnswers
 
@@ -155,3 +158,67 @@ integrityOf n = column (λ r. Algorithms.integrityOf (r .integrity)) (rowOf n)
 -- "The port reads the third column"
 abbrev pub confidentialityOf : ℕ → Option ConfidentialityAlgorithm
 confidentialityOf n = column (λ r. Algorithms.confidentialityOf (r .confidentiality)) (rowOf n)
+
+-- Reading records. Document 01, "Reading records, one step at a time"; IPMI 2.0, Table 22-18.
+
+-- the first byte of a standard suite's record
+abbrev pub recordStart : ℕ
+recordStart = 0xC0
+
+-- the bytes behind a record's number, one for each algorithm
+abbrev pub algorithms : ℕ
+algorithms = 3
+
+-- a step that gives nothing, where it ends, and whether the reading is then marked as failed
+abbrev pub nothing : ℕ → Bool → Step
+nothing position failed = record { answer = SuiteAnswers.Nothing; position = position; failed = failed }
+
+abbrev pub gives : CipherSuite → ℕ → Step
+gives s position = record { answer = SuiteAnswers.Suite s; position = position; failed = false }
+
+-- "above 19 gives nothing ..; else three more bytes are taken, their contents unused, and the suite is given, or nothing if one is missing"
+abbrev pub stepSuite : List ℕ → ℕ → Option CipherSuite → Step
+stepSuite list at none = nothing (at + 1) false
+stepSuite list at (some s) = if at + algorithms <? length list then gives s (at + algorithms + 1) else nothing (length list) false
+
+-- "it takes the number byte; missing .. gives nothing, and the reading is NOT marked as failed"
+abbrev pub stepNumber : List ℕ → ℕ → Step
+stepNumber list at = if at <? length list then stepSuite list at (suiteOf (byte at list)) else nothing at false
+
+-- "A step takes one byte. None left (a position at or past the end): nothing. Not 0xC0: nothing, and every later step takes and gives nothing."
+abbrev pub stepAt : List ℕ → ℕ → Bool → Step
+stepAt list position failed =
+    if failed then nothing position failed else
+    if position <? length list then
+    (if byte position list =? recordStart then stepNumber list (position + 1) else nothing (position + 1) true) else
+    nothing position failed
+
+-- the step behind k others, each of which goes on where the one before it ended
+unfoldable pub stepAfter : ℕ → List ℕ → ℕ → Bool → Step
+stepAfter zero list position failed = stepAt list position failed
+stepAfter (suc k) list position failed = stepAfter k list (stepAt list position failed .position) (stepAt list position failed .failed)
+
+-- a suite's number and those that follow; no suite, and nothing follows
+abbrev pub before : SuiteAnswer → List ℕ → List ℕ
+before (SuiteAnswers.Suite s) numbers = s .0 ∷ numbers
+before SuiteAnswers.Nothing numbers = []
+
+-- the suites that at most k steps give, up to the first step that gives nothing
+unfoldable pub upTo : ℕ → List ℕ → ℕ → Bool → List ℕ
+upTo zero list position failed = []
+upTo (suc k) list position failed = before (stepAt list position failed .answer) (upTo k list (stepAt list position failed .position) (stepAt list position failed .failed))
+
+-- "The list of a byte string": there are no more steps that give a suite than bytes
+abbrev pub numbersOf : List ℕ → List ℕ
+numbersOf list = upTo (length list) list 0 false
+
+abbrev pub isSuite : SuiteAnswer → Bool
+isSuite (SuiteAnswers.Suite s) = true
+isSuite SuiteAnswers.Nothing = false
+
+-- the step of a reader that holds the list, and the reader behind it
+abbrev pub stepOf : Iter → Step
+stepOf reader = stepAt (now (reader .list)) (reader .position) (reader .failed)
+
+abbrev pub moved : Iter → Step → Iter
+moved reader step = record { list = reader .list; position = step .position; failed = step .failed }

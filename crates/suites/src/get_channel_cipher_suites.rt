@@ -1,11 +1,12 @@
-// Get Channel Cipher Suites, App 54h: IPMI 2.0, Table 22-17; the Rust's get_channel_cipher_suites.rs. So far the request, the answer and the table of suites.
+// Get Channel Cipher Suites, App 54h: IPMI 2.0, Table 22-17; the Rust's get_channel_cipher_suites.rs.
 ghost use mathlib.Core.Path.{_≡_};
-ghost use Rattle.suites.specs.GetChannelCipherSuites.{authenticationOf, commandBytes, commandFor, commandOf, commandOn, confidentialityOf, integrityOf, noSuites, rowOf, saidCommand, saidRow, saidSuite, same, suiteFor, suiteOf, suitesBytes, suitesOf, zeros};
+ghost use Rattle.suites.specs.GetChannelCipherSuites.{authenticationOf, commandBytes, commandFor, commandOf, commandOn, confidentialityOf, integrityOf, isSuite, moved, noSuites, nothing, numbersOf, rowOf, saidCommand, saidRow, saidSuite, same, stepAt, stepNumber, stepOf, suiteFor, suiteOf, suitesBytes, suitesOf, zeros};
 ghost use Rattle.auth.specs.Algorithms.{saidAuthentication, saidConfidentiality, saidIntegrity};
 ghost use Rattle.base.specs.Outcome.{accepted};
 ghost use Rattle.base.specs.Verdict.{Gives};
 ghost use Rattle.base.specs.Written.{Writes};
-ghost use lib.ListN.{drop, take};
+ghost use lib.ListN.{drop, length, take};
+ghost use mathlib.Core.Bool.{false};
 use auth::algorithms::AuthenticationAlgorithm;
 use auth::algorithms::AuthenticationAnswer;
 use auth::algorithms::ConfidentialityAlgorithm;
@@ -370,5 +371,136 @@ impl CipherSuite {
             return ConfidentialityAnswer::Nothing;
         };
         ConfidentialityAlgorithm::try_from(row.confidentiality)
+    }
+}
+
+// The first byte of a standard suite's record.
+const RECORD_START: u8 = 0xC0;
+
+// The bytes behind a record's number, one for each algorithm.
+const ALGORITHMS: usize = 3;
+
+// A whole record: its first byte, its number, its algorithms.
+const RECORD: usize = 2 + ALGORITHMS;
+
+// What a step of the reading gives, and where and how it leaves the reading.
+pub struct Step {
+    pub answer: SuiteAnswer,
+    pub position: usize,
+    pub failed: bool,
+}
+
+fn nothing(position: usize, failed: bool) -> Step
+    ensures { λ r. ⌜ r ≡ nothing position failed ⌝ }
+{
+    Step {
+        answer: SuiteAnswer::Nothing,
+        position,
+        failed,
+    }
+}
+
+// A step behind a record's first byte.
+fn step_number(list: &[u8], at: usize) -> Step
+    ensures { λ r. ⌜ r ≡ stepNumber (now (list .entry)) at ⌝ }
+{
+    if list.len() <= at {
+        return nothing(at, false);
+    }
+    let SuiteAnswer::Suite(suite) = CipherSuite::from_id(list[at]) else {
+        return nothing(at + 1, false);
+    };
+    if list.len() - at <= ALGORITHMS {
+        return nothing(list.len(), false);
+    }
+    Step {
+        answer: SuiteAnswer::Suite(suite),
+        position: at + ALGORITHMS + 1,
+        failed: false,
+    }
+}
+
+// One step of the reading of a list from a position on. After a failure it takes and gives nothing.
+pub fn step_at(list: &[u8], position: usize, failed: bool) -> Step
+    ensures { λ r. ⌜ r ≡ stepAt (now (list .entry)) position failed ⌝ }
+{
+    if failed {
+        return nothing(position, failed);
+    }
+    if list.len() <= position {
+        return nothing(position, failed);
+    }
+    if list[position] != RECORD_START {
+        return nothing(position + 1, true);
+    }
+    step_number(list, position + 1)
+}
+
+// Whether a step at this place gives a suite.
+fn is_record(list: &[u8], at: usize) -> bool
+    ensures { λ r. ⌜ r ≡ isSuite (stepAt (now (list .entry)) at false .answer) ⌝ }
+{
+    let step = step_at(list, at, false);
+    let answer = step.answer;
+    match answer {
+        SuiteAnswer::Suite(_) => true,
+        SuiteAnswer::Nothing => false,
+    }
+}
+
+// How many suites the list has.
+fn count(list: &[u8]) -> usize
+    ensures { λ r. ⌜ r ≡ length (numbersOf (now (list .entry))) ⌝ }
+{
+    let mut n: usize = 0;
+    let mut at: usize = 0;
+    while is_record(list, at) {
+        n += 1;
+        at += RECORD;
+    }
+    n
+}
+
+// The numbers of the list's suites, a byte each, up to the first step that gives nothing.
+pub fn suite_numbers(list: &[u8], out: &mut [u8]) -> Written
+    ensures { λ r. ⌜ Writes (accepted (numbersOf (now (list .entry)))) r (now (out .entry)) (now (out .exit)) ⌝ }
+{
+    let n = count(list);
+    if out.len() < n {
+        return Written::Refused(Refusal::NoRoom);
+    }
+    let mut i: usize = 0;
+    while i < n {
+        out[i] = list[RECORD * i + 1];
+        i += 1;
+    }
+    Written::Length(n)
+}
+
+// The Rust's iterator: it holds the lent list, and steps as it does.
+pub struct Iter<'a> {
+    pub list: &'a [u8],
+    pub position: usize,
+    pub failed: bool,
+}
+
+impl<'a> Iter<'a> {
+    pub fn parse_full_data(list: &'a [u8]) -> Iter<'a>
+        ensures { λ r. ⌜ (r .list ≡ list .entry) × ((r .position ≡ 0) × (r .failed ≡ false)) ⌝ }
+    {
+        Iter {
+            list,
+            position: 0,
+            failed: false,
+        }
+    }
+
+    pub fn next(&mut self) -> SuiteAnswer
+        ensures { λ r. ⌜ (r ≡ stepOf (now (self .entry)) .answer) × (now (self .exit) ≡ moved (now (self .entry)) (stepOf (now (self .entry)))) ⌝ }
+    {
+        let step = step_at(self.list, self.position, self.failed);
+        self.position = step.position;
+        self.failed = step.failed;
+        step.answer
     }
 }
