@@ -65,6 +65,9 @@ number3-unique κs a ok z z′ w w′ q q′ = (both q q′, refl)
 pub refusal-number-unique : Unique p.refusal.Refusal.number.Kinds.ps p.refusal.Refusal.number.Kinds.r p.refusal.Refusal.number.Reads.Asked p.refusal.Refusal.number.Reads.Learnt
 refusal-number-unique κs a ok z z′ w w′ q q′ = (both q q′, refl)
 
+pub refusal-carried-unique : Unique p.refusal.Refusal.carried.Kinds.ps p.refusal.Refusal.carried.Kinds.r p.refusal.Refusal.carried.Reads.Asked p.refusal.Refusal.carried.Reads.Learnt
+refusal-carried-unique κs a ok z z′ w w′ q q′ = (both q q′, refl)
+
 pub digit-unique : Unique p.text.digit.Kinds.ps p.text.digit.Kinds.r p.text.digit.Reads.Asked p.text.digit.Reads.Learnt
 digit-unique κs a ok z z′ w w′ q q′ = (both q q′, refl)
 

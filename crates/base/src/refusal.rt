@@ -1,5 +1,6 @@
 // The refusals of document 01, by the names it gives them.
 ghost use mathlib.Core.Path.{_≡_};
+ghost use Rattle.base.specs.Field.{byte};
 ghost use Rattle.base.specs.Refusal.{row};
 
 pub enum Refusal {
@@ -39,6 +40,28 @@ impl Refusal {
             Refusal::Disagrees => 12,
             Refusal::Incomplete(_) => 13,
             Refusal::BadLine => 14,
+        }
+    }
+
+    // The byte that it carries, 0 where it carries none.
+    pub fn carried(self) -> u8
+        ensures { λ r. ⌜ r ≡ byte 0 (row self .1) ⌝ }
+    {
+        match self {
+            Refusal::NotEnoughData => 0,
+            Refusal::TooMuchData => 0,
+            Refusal::InvalidZeroSession => 0,
+            Refusal::InvalidAuthType(byte) => byte,
+            Refusal::InvalidPrivilegeLevel(byte) => byte,
+            Refusal::NoChannel => 0,
+            Refusal::BadIndex => 0,
+            Refusal::LongName => 0,
+            Refusal::NoForm => 0,
+            Refusal::NotARequest => 0,
+            Refusal::NoRoom => 0,
+            Refusal::Disagrees => 0,
+            Refusal::Incomplete(index) => index,
+            Refusal::BadLine => 0,
         }
     }
 }
