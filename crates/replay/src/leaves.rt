@@ -1,5 +1,6 @@
 // Questions on the leaves of the port. An answer of no bytes: not such a question.
 use crate::channels::channel_text;
+use crate::put::carried;
 use crate::put::decimal;
 use crate::put::named;
 use crate::put::none;
@@ -59,16 +60,34 @@ fn unit_of(n: u8, out: &mut [u8]) -> usize {
     unit(found, out)
 }
 
+pub(crate) fn authentication_name(
+    algorithm: AuthenticationAlgorithm,
+    at: usize,
+    out: &mut [u8],
+) -> usize {
+    match algorithm {
+        AuthenticationAlgorithm::RakpNone => text(b"RakpNone", at, out),
+        AuthenticationAlgorithm::RakpHmacSha1 => text(b"RakpHmacSha1", at, out),
+        AuthenticationAlgorithm::RakpHmacMd5 => text(b"RakpHmacMd5", at, out),
+        AuthenticationAlgorithm::RakpHmacSha256 => text(b"RakpHmacSha256", at, out),
+    }
+}
+
 fn authentication(n: u8, out: &mut [u8]) -> usize {
     let AuthenticationAnswer::Algorithm(algorithm) = AuthenticationAlgorithm::try_from(n) else {
         return none(out);
     };
-    let number = algorithm.value();
+    let at = authentication_name(algorithm, 0, out);
+    carried(algorithm.value(), at, out)
+}
+
+pub(crate) fn integrity_name(algorithm: IntegrityAlgorithm, at: usize, out: &mut [u8]) -> usize {
     match algorithm {
-        AuthenticationAlgorithm::RakpNone => named(b"RakpNone", number, out),
-        AuthenticationAlgorithm::RakpHmacSha1 => named(b"RakpHmacSha1", number, out),
-        AuthenticationAlgorithm::RakpHmacMd5 => named(b"RakpHmacMd5", number, out),
-        AuthenticationAlgorithm::RakpHmacSha256 => named(b"RakpHmacSha256", number, out),
+        IntegrityAlgorithm::None => text(b"None", at, out),
+        IntegrityAlgorithm::HmacSha1_96 => text(b"HmacSha1_96", at, out),
+        IntegrityAlgorithm::HmacMd5_128 => text(b"HmacMd5_128", at, out),
+        IntegrityAlgorithm::Md5_128 => text(b"Md5_128", at, out),
+        IntegrityAlgorithm::HmacSha256_128 => text(b"HmacSha256_128", at, out),
     }
 }
 
@@ -76,20 +95,11 @@ fn integrity(n: u8, out: &mut [u8]) -> usize {
     let IntegrityAnswer::Algorithm(algorithm) = IntegrityAlgorithm::try_from(n) else {
         return none(out);
     };
-    let number = algorithm.value();
-    match algorithm {
-        IntegrityAlgorithm::None => named(b"None", number, out),
-        IntegrityAlgorithm::HmacSha1_96 => named(b"HmacSha1_96", number, out),
-        IntegrityAlgorithm::HmacMd5_128 => named(b"HmacMd5_128", number, out),
-        IntegrityAlgorithm::Md5_128 => named(b"Md5_128", number, out),
-        IntegrityAlgorithm::HmacSha256_128 => named(b"HmacSha256_128", number, out),
-    }
+    let at = integrity_name(algorithm, 0, out);
+    carried(algorithm.value(), at, out)
 }
 
-fn confidentiality(n: u8, out: &mut [u8]) -> usize {
-    let ConfidentialityAnswer::Algorithm(algorithm) = ConfidentialityAlgorithm::try_from(n) else {
-        return none(out);
-    };
+pub(crate) fn confidentiality_of(algorithm: ConfidentialityAlgorithm, out: &mut [u8]) -> usize {
     let number = algorithm.value();
     match algorithm {
         ConfidentialityAlgorithm::None => named(b"None", number, out),
@@ -97,6 +107,13 @@ fn confidentiality(n: u8, out: &mut [u8]) -> usize {
         ConfidentialityAlgorithm::Xrc4_128 => named(b"Xrc4_128", number, out),
         ConfidentialityAlgorithm::Xrc4_40 => named(b"Xrc4_40", number, out),
     }
+}
+
+fn confidentiality(n: u8, out: &mut [u8]) -> usize {
+    let ConfidentialityAnswer::Algorithm(algorithm) = ConfidentialityAlgorithm::try_from(n) else {
+        return none(out);
+    };
+    confidentiality_of(algorithm, out)
 }
 
 fn auth_type(n: u8, out: &mut [u8]) -> usize {

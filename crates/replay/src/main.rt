@@ -6,6 +6,7 @@ use libc::STDIN_FILENO;
 use libc::STDOUT_FILENO;
 
 mod channels;
+mod ciphers;
 mod leaves;
 mod put;
 mod question;

@@ -41,7 +41,8 @@ pub(crate) fn none(out: &mut [u8]) -> usize {
     text(b"none", 0, out)
 }
 
-fn carried(value: u8, at: usize, out: &mut [u8]) -> usize {
+// A value behind what is there.
+pub(crate) fn carried(value: u8, at: usize, out: &mut [u8]) -> usize {
     let at = text(b" ", at, out);
     decimal(value as u64, at, out)
 }

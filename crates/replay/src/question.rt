@@ -2,6 +2,7 @@
 ghost use Prim.Native.Nat.{_≤_};
 ghost use lib.ListN.{length};
 use crate::channels::answer_channel;
+use crate::ciphers::answer_suite;
 use crate::leaves::answer_leaf;
 use crate::put::text;
 use crate::sessions::answer_session;
@@ -87,7 +88,11 @@ fn asked(word: &[u8], bytes: &[u8], out: &mut [u8]) -> usize {
     if n != 0 {
         return n;
     }
-    answer_session(word, bytes, out)
+    let n = answer_session(word, bytes, out);
+    if n != 0 {
+        return n;
+    }
+    answer_suite(word, bytes, out)
 }
 
 // The answering line, with its newline, at the start of `out`; its length.

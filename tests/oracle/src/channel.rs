@@ -160,7 +160,7 @@ fn written_questions(list: &mut Vec<String>, random: &mut Random) {
     }
 }
 
-fn all_numbers(list: &mut Vec<String>, word: &str) {
+pub fn all_numbers(list: &mut Vec<String>, word: &str) {
     for number in 0..=u8::MAX {
         list.push(form::write(word, &[number]));
     }
@@ -230,12 +230,17 @@ fn access(data: &[u8]) -> String {
     }
 }
 
-/// FNV-1a over the answers for every second byte, a line each: all pairs are
-/// asked without a line for each of them.
+/// All second bytes behind one first.
 fn access_all(first: u8) -> String {
+    hash((0..=u8::MAX).map(|second| access(&[first, second])))
+}
+
+/// FNV-1a over answers, a line each: so much is asked without a line for each of
+/// them.
+pub fn hash(answers: impl Iterator<Item = String>) -> String {
     let mut hash: u32 = 2_166_136_261;
-    for second in 0..=u8::MAX {
-        for byte in access(&[first, second]).bytes().chain([b'\n']) {
+    for answer in answers {
+        for byte in answer.bytes().chain([b'\n']) {
             hash = (hash ^ u32::from(byte)).wrapping_mul(16_777_619);
         }
     }

@@ -76,7 +76,7 @@ fn unit(unit: LogicalUnit) -> String {
 }
 
 /// What a number names, and the number that the name gives back.
-fn named<T>(number: u8) -> String
+pub fn named<T>(number: u8) -> String
 where
     T: TryFrom<u8, Error = ()> + Into<u8> + Copy + Debug,
 {

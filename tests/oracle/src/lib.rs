@@ -9,6 +9,7 @@ mod channel;
 mod form;
 mod leaves;
 mod session;
+mod suites;
 
 use std::panic::catch_unwind;
 
@@ -19,6 +20,7 @@ pub fn questions() -> Vec<String> {
     form::questions(&mut list);
     channel::questions(&mut list);
     session::questions(&mut list);
+    suites::questions(&mut list);
     list
 }
 
@@ -37,4 +39,5 @@ fn ask(line: &[u8]) -> Option<String> {
     leaves::answer(word, &data)
         .or_else(|| channel::answer(word, &data))
         .or_else(|| session::answer(word, &data))
+        .or_else(|| suites::answer(word, &data))
 }
