@@ -1,8 +1,8 @@
 use borrow.Author.Needs.{needs}
-use mathlib.Core.Path.{_≡_, refl, sym}
+use mathlib.Core.Path.{_≡_, refl, sym, _∙_, ap}
 use Prim.Native.Nat.{_-_, _≤_}
 use native.Mathlib.Omega.{arith}
-use lib.ListN.{length, length-set}
+use lib.ListN.{length, length-set, set}
 use lib.Seq.{paste, paste-zero}
 use Rattle.base.proofs.written.Laws.{fitting, lacking, stored, whole}
 use Rattle.suites.specs.GetChannelCipherSuites.{numbersOf}
@@ -59,7 +59,7 @@ loop-again c =
     let h = numbered-at s (k .loop .i) (omega arith) in
     let l = k .loop .inv in
     let o = k .before .before .before .before .before .args .out .now in
-    ((omega arith, omega arith), (simp length-set (l .1 .0), rw (sym (h .1)) (stored o (numbersOf s) (k .loop .out) (k .loop .i) (l .1 .1) (omega arith) (omega arith))))
+    ((omega arith, omega arith), (simp length-set (l .1 .0), ap (set (k .loop .out) (k .loop .i)) (sym (h .1)) ∙ stored o (numbersOf s) (k .loop .out) (k .loop .i) (l .1 .1) (omega arith) (omega arith)))
 
 returns-2 : tie.Need-returns-2 Inv-loop μ-loop
 returns-2 c =
