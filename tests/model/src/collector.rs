@@ -123,23 +123,31 @@ mod tests {
     /// speaks of can have any byte.
     fn explaining(answers: &[&Answer]) -> Vec<Vec<Option<u8>>> {
         (0..=CAPACITY)
-            .filter_map(|n| {
-                let mut list = vec![None; n];
-                for answer in answers {
-                    let start = PART * usize::from(answer.index);
-                    let places = (start..start + PART).filter(|&place| place < n);
-                    if places.clone().count() != answer.bytes.len() {
-                        return None;
-                    }
-                    for (place, &byte) in places.zip(&answer.bytes) {
-                        if *list[place].get_or_insert(byte) != byte {
-                            return None;
-                        }
-                    }
-                }
-                Some(list)
-            })
+            .filter_map(|n| laid_out(n, answers))
             .collect()
+    }
+
+    /// On a list of this length, if they fit there.
+    fn laid_out(n: usize, answers: &[&Answer]) -> Option<Vec<Option<u8>>> {
+        let places = |answer: &Answer| {
+            let start = 16 * usize::from(answer.index);
+            start.min(n)..(start + 16).min(n)
+        };
+        if answers
+            .iter()
+            .any(|answer| places(answer).len() != answer.bytes.len())
+        {
+            return None;
+        }
+        let mut list = vec![None; n];
+        for answer in answers {
+            for (place, &byte) in places(answer).zip(&answer.bytes) {
+                if *list[place].get_or_insert(byte) != byte {
+                    return None;
+                }
+            }
+        }
+        Some(list)
     }
 
     /// Whether every index up to min(63, n / 16) was heard, for this list.
