@@ -180,6 +180,14 @@ struct Walk {
     at: usize,
 }
 
+// A space, but before the first.
+fn space(i: usize, at: usize, out: &mut [u8]) -> usize {
+    if i == 0 {
+        return at;
+    }
+    text(b" ", at, out)
+}
+
 fn given(answer: SuiteAnswer, at: usize, out: &mut [u8]) -> usize {
     match answer {
         SuiteAnswer::Suite(suite) => decimal(suite.id() as u64, at, out),
@@ -190,7 +198,7 @@ fn given(answer: SuiteAnswer, at: usize, out: &mut [u8]) -> usize {
 fn walked(list: &[u8], i: usize, w: Walk, out: &mut [u8]) -> Walk {
     let s = step_at(list, w.position, w.failed);
     let answer = s.answer;
-    let at = if i == 0 { 0 } else { text(b" ", w.at, out) };
+    let at = space(i, w.at, out);
     let at = given(answer, at, out);
     Walk {
         position: s.position,

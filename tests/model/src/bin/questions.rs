@@ -1,0 +1,18 @@
+//! Writes the list of questions, a line each; with the word `million`, those of
+//! a million random histories instead.
+
+use std::io::{self, BufWriter, Write};
+
+fn main() -> io::Result<()> {
+    let words: Vec<String> = std::env::args().skip(1).collect();
+    let list = match words.iter().map(String::as_str).collect::<Vec<_>>()[..] {
+        [] => collector_model::questions(),
+        ["million"] => collector_model::million(),
+        _ => return Err(io::Error::other("usage: questions [million]")),
+    };
+    let mut output = BufWriter::new(io::stdout().lock());
+    for question in list {
+        writeln!(output, "{question}")?;
+    }
+    output.flush()
+}
