@@ -1,1 +1,10 @@
+pub mod Asking
+pub mod Basic
+pub mod Complete
+pub mod Entries
+pub mod Heard
+pub mod History
+pub mod Parts
+pub mod Reach
+pub mod Step
 pub mod Unique
