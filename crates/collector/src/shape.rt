@@ -130,7 +130,10 @@ pub(crate) fn marks_fit(shape: Shape) -> bool
     if Collector::PART + 1 < wide(shape.most) {
         return false;
     }
-    wide(shape.top) + wide(shape.gap) <= Collector::PARTS + 1
+    if Collector::PARTS + 1 < wide(shape.top) + wide(shape.gap) {
+        return false;
+    }
+    true
 }
 
 // The shape with a mark at an unheard index: no second pass.
