@@ -111,7 +111,7 @@ module _ (c : Collector) (l : List ℕ) (t : TellsOf l c) where
       (lt-or-le (lastOf (length l)) (lowest (c .marks) 64)))
       (eq-or-ne (lowest (c .marks) 64) 64)
 
-  complete-low : isComplete c ≡ true → leastTo (c .marks) 64 ≡ length l
+  pub complete-low : isComplete c ≡ true → leastTo (c .marks) 64 ≡ length l
   complete-low e =
       let s : length l ≤ 1024 = t .size in
       let under : leastTo (c .marks) 64 ≤ length l = low-under (c .marks) (length l) (t .marks) in

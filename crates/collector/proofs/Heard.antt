@@ -79,12 +79,12 @@ known (a ∷ h) u =
 
 -- an equal repeat is accepted and changes nothing
 
-among-heard : (a : Call) (h : List Call) → Among a h → HeardIn (a .index) h
+pub among-heard : (a : Call) (h : List Call) → Among a h → HeardIn (a .index) h
 among-heard a [] x = x
 among-heard a (b ∷ h) (inl e) = inl (ap (λ (x : Call). x .index) e)
 among-heard a (b ∷ h) (inr x) = inr (among-heard a h x)
 
-among-explains : (l : List ℕ) (a : Call) (h : List Call) → Among a h → Explains l h → answerOf l (a .index) ≡ a .content
+pub among-explains : (l : List ℕ) (a : Call) (h : List Call) → Among a h → Explains l h → answerOf l (a .index) ≡ a .content
 among-explains l a [] x e = absurd x
 among-explains l a (b ∷ h) (inl q) e = subst (λ (x : Call). answerOf l (x .index) ≡ x .content) q (e .0)
 among-explains l a (b ∷ h) (inr x) e = among-explains l a h x (e .1)

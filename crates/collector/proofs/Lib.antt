@@ -1,6 +1,7 @@
 pub mod Asking
 pub mod Basic
 pub mod Complete
+pub mod Demand
 pub mod Entries
 pub mod Heard
 pub mod History
