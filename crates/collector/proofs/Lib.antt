@@ -7,5 +7,7 @@ pub mod Heard
 pub mod History
 pub mod Parts
 pub mod Reach
+pub mod Said
 pub mod Step
 pub mod Unique
+pub mod Walked
