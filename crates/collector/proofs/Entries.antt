@@ -22,10 +22,10 @@ use Rattle.collector.specs.declared.Judgement.{Judgement}
 use Rattle.collector.specs.declared.Judgement.the-variants.{Store, Keep, Refuse}
 use Rattle.collector.specs.declared.shape.Shape.{Shape}
 use Rattle.collector.specs.Collector.{Standing, complete, missing, marksFit, bytesFit, wellFormed, standsAt, holds, put, joining, taking, completeBy, isComplete, standingOf, listOf, leastTo, lowest}
-use Rattle.collector.specs.Shape.{shapeOf, fits, shapeWith, held, Judged}
-use Rattle.collector.proofs.Basic.{bool-cases, low-small}
+use Rattle.collector.specs.Shape.{shapeOf, fits, completeShape, ShapeFits, shapeWith, held, Judged}
+use Rattle.collector.proofs.Basic.{both-left, bool-cases, low-small}
 use Rattle.collector.proofs.Step.{wf-marks}
-use Rattle.collector.proofs.shape.Laws.{marks-by-shape, marks-with, put-test}
+use Rattle.collector.proofs.shape.Laws.{marks-by-shape, marks-with, put-test, lowest-free, free-small, fit-of, complete-by-shape}
 
 -- an answer
 
@@ -67,28 +67,38 @@ module _ (c : Collector) (i : ℕ) (d : List ℕ) where
   unfolding holds
   holds-is e = rw (eq-eqb (getD (c .marks) i 0) (suc (length d)) e)
 
--- the same by the shape of the marks, as `judge` finds it
+-- the same by the shape of the marks, as the code finds it
 
 module _ (bs ms : List ℕ) (s : Shape) (es : s ≡ shapeOf ms) where
-  pub wf-marks-no : fits s ≡ false → wellFormed (held bs ms) ≡ false
-  wf-marks-no e = let m : marksFit ms ≡ false = sym (marks-by-shape ms) ∙ ap fits (sym es) ∙ e in rw m
+  fits-marks : fits s ≡ marksFit ms
+  fits-marks = ap fits es ∙ marks-by-shape ms
 
-  module _ (e : fits s ≡ true) where
-    marks-yes : marksFit ms ≡ true
-    marks-yes = sym (marks-by-shape ms) ∙ ap fits (sym es) ∙ e
+  pub formed-not : fits s ≡ false → wellFormed (held bs ms) ≡ false
+  formed-not e = let m : marksFit ms ≡ false = sym fits-marks ∙ e in rw m
 
-    pub wf-is-bytes : wellFormed (held bs ms) ≡ bytesFit bs ms
-    wf-is-bytes = rw marks-yes
+  pub formed-by : fits s ≡ true → wellFormed (held bs ms) ≡ bytesFit bs ms
+  formed-by e = let m : marksFit ms ≡ true = sym fits-marks ∙ e in rw m
 
-    module _ (i : ℕ) (d : List ℕ) (b : bytesFit bs ms ≡ true) where
-      wf : wellFormed (held bs ms) ≡ true
-      wf = wf-is-bytes ∙ b
+  pub free-within : s .free ≤ 64
+  free-within = omega (arith, ap (λ (x : Shape). x .free) es, free-small ms)
 
+  pub lowest-by : 64 - s .free ≡ lowest ms 64
+  lowest-by = ap (λ (x : Shape). 64 - x .free) es ∙ lowest-free ms
+
+  module _ (w : wellFormed (held bs ms) ≡ true) where
+    pub shape-fits : ShapeFits ms s
+    shape-fits = record { is = es; fit = fits-marks ∙ both-left (marksFit ms) (bytesFit bs ms) w }
+
+    pub complete-by : completeShape s ≡ isComplete (held bs ms)
+    unfolding isComplete
+    complete-by = ap completeShape es ∙ complete-by-shape ms (fit-of ms s shape-fits)
+
+    module _ (i : ℕ) (d : List ℕ) where
       pub says-7 : 63 < i → taking (held bs ms) i d ≡ refused 7 []
-      says-7 h = taking-7 (held bs ms) i d wf h
+      says-7 h = taking-7 (held bs ms) i d w h
 
       pub says-2 : i ≤ 63 → 16 < length d → taking (held bs ms) i d ≡ refused 2 []
-      says-2 h k = taking-2 (held bs ms) i d wf h k
+      says-2 h k = taking-2 (held bs ms) i d w h k
 
       module _ (h : i ≤ 63) (k : length d ≤ 16) (m n : ℕ) (em : m ≡ getD ms i 0) (en : n ≡ length d + 1) where
         n-is : n ≡ suc (length d)
@@ -97,30 +107,33 @@ module _ (bs ms : List ℕ) (s : Shape) (es : s ≡ shapeOf ms) where
         module _ (z : m ≡ 0) (lb : length bs ≡ 1024) (lm : length ms ≡ 64) where
           put-by : wellFormed (put (held bs ms) i d) ≡ fits (shapeWith s i n)
           put-by =
-              put-test (held bs ms) i d lb lm (omega arith) k wf (sym em ∙ z)
+              put-test (held bs ms) i d lb lm (omega arith) k w (sym em ∙ z)
               ∙ ap (λ (x : ℕ). marksFit (set ms i x)) (sym n-is)
               ∙ sym (marks-with ms lm i n (omega arith) (sym em ∙ z))
               ∙ ap (λ (x : Shape). fits (shapeWith x i n)) (sym es)
 
           pub says-store : fits (shapeWith s i n) ≡ true → Judged (held bs ms) i d Store
-          says-store f = (joins (held bs ms) i d wf h k (sym em ∙ z) (put-by ∙ f), (h, k))
+          says-store f = (joins (held bs ms) i d w h k (sym em ∙ z) (put-by ∙ f), (h, k))
 
           pub says-clash : fits (shapeWith s i n) ≡ false → taking (held bs ms) i d ≡ refused 12 []
-          says-clash f = clashes (held bs ms) i d wf h k (sym em ∙ z) (put-by ∙ f)
+          says-clash f = clashes (held bs ms) i d w h k (sym em ∙ z) (put-by ∙ f)
 
         module _ (nz : m ≡ 0 → ⊥) where
           heard : getD ms i 0 ≡ 0 → ⊥
           heard q = nz (em ∙ q)
 
           pub says-other : (m ≡ n → ⊥) → taking (held bs ms) i d ≡ refused 12 []
-          says-other ne = differs (held bs ms) i d wf h k heard (holds-not (held bs ms) i d (λ q. ne (em ∙ q ∙ sym n-is)))
+          says-other ne = differs (held bs ms) i d w h k heard (holds-not (held bs ms) i d (λ q. ne (em ∙ q ∙ sym n-is)))
 
           module _ (eq : m ≡ n) where
-            pub says-keep : standsAt bs (16 * i) d ≡ true → taking (held bs ms) i d ≡ accepted (held bs ms)
-            says-keep f = repeats (held bs ms) i d wf h k heard (holds-is (held bs ms) i d (sym em ∙ eq ∙ n-is) ∙ f)
+            holds-by : (at : ℕ) → at ≡ 16 * i → holds (held bs ms) i d ≡ standsAt bs at d
+            holds-by at e = holds-is (held bs ms) i d (sym em ∙ eq ∙ n-is) ∙ ap (λ (x : ℕ). standsAt bs x d) (sym e)
 
-            pub says-differs : standsAt bs (16 * i) d ≡ false → taking (held bs ms) i d ≡ refused 12 []
-            says-differs f = differs (held bs ms) i d wf h k heard (holds-is (held bs ms) i d (sym em ∙ eq ∙ n-is) ∙ f)
+            pub says-keep : (at : ℕ) → at ≡ 16 * i → standsAt bs at d ≡ true → taking (held bs ms) i d ≡ accepted (held bs ms)
+            says-keep at e f = repeats (held bs ms) i d w h k heard (holds-by at e ∙ f)
+
+            pub says-differs : (at : ℕ) → at ≡ 16 * i → standsAt bs at d ≡ false → taking (held bs ms) i d ≡ refused 12 []
+            says-differs at e f = differs (held bs ms) i d w h k heard (holds-by at e ∙ f)
 
 -- what a judgement leaves
 
@@ -128,8 +141,9 @@ module _ (c : Collector) (i : ℕ) (d : List ℕ) (v : Judgement) (j : Judged c 
   pub stored : v ≡ Store → (taking c i d ≡ accepted (put c i d)) × ((i ≤ 63) × (length d ≤ 16))
   stored e = subst (Judged c i d) e j
 
-  pub left-store : v ≡ Store → (bs ms : List ℕ) → bs ≡ paste (c .bytes) (16 * i) d (length d) → ms ≡ set (c .marks) i (length d + 1) → Gives (taking c i d) c Accepted (held bs ms)
-  left-store e bs ms p q =
+  pub left-store : v ≡ Store → (at : ℕ) → at ≡ 16 * i → (bs ms : List ℕ) → bs ≡ paste (c .bytes) at d (length d) → ms ≡ set (c .marks) i (length d + 1) → Gives (taking c i d) c Accepted (held bs ms)
+  left-store e at a bs ms p′ q =
+      let p : bs ≡ paste (c .bytes) (16 * i) d (length d) = p′ ∙ ap (λ (x : ℕ). paste (c .bytes) x d (length d)) a in
       let f : ms ≡ set (c .marks) i (suc (length d)) = q ∙ ap (set (c .marks) i) (add-one (length d)) in
       let z : put c i d ≡ held bs ms = rw (p, f) in
       giving c (held bs ms) (stored e .0 ∙ ap accepted z)
@@ -141,10 +155,6 @@ module _ (c : Collector) (i : ℕ) (d : List ℕ) (v : Judgement) (j : Judged c 
   left-refuse r e = refusing c r (subst (Judged c i d) e j)
 
 -- where it stands
-
-pub complete-is : (bs ms : List ℕ) → isComplete (held bs ms) ≡ completeBy ms
-unfolding isComplete
-complete-is bs ms = refl
 
 module _ (c : Collector) where
   pub standing-9 : wellFormed c ≡ false → standingOf c ≡ refused 9 []

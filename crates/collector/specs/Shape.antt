@@ -7,7 +7,7 @@ use lib.ListN.{length, getD}
 use Rattle.base.specs.Choice.{if_then_else_, _<?_, _=?_}
 use Rattle.base.specs.Outcome.{accepted}
 use Rattle.base.specs.Refusal.{refusal}
-use Rattle.collector.specs.Collector.{lastIndex, partLength, parts, put, taking}
+use Rattle.collector.specs.Collector.{_or_, lastIndex, partLength, parts, put, taking}
 use Rattle.collector.specs.declared.Collector.{Collector}
 use Rattle.collector.specs.declared.Judgement.{Judgement}
 use Rattle.collector.specs.declared.Judgement.the-variants.{Store, Keep, Refuse}
@@ -24,7 +24,7 @@ filled j m = if 1 <? m then j else 0
 
 -- j where it was heard and is not full
 abbrev pub partly : ℕ → ℕ → ℕ
-partly j m = if m =? 0 then 0 else if partLength <? m then 0 else j
+partly j m = if m =? 0 then 0 else if m <? suc partLength then j else 0
 
 -- j where it was not heard
 abbrev pub free : ℕ → ℕ → ℕ
@@ -56,6 +56,10 @@ shapeOf marks = record { top = topTo marks parts; gap = gapTo marks parts; most 
 -- no part is too long, and none that is not full lies below the last that is not empty
 abbrev pub fits : Shape → Bool
 fits s = if suc partLength <? s .most then false else if suc parts <? s .top + s .gap then false else true
+
+-- every index was heard, or the first part that is not full stands below the lowest unheard index
+abbrev pub completeShape : Shape → Bool
+completeShape s = (s .free =? 0) or (s .free <? s .gap)
 
 pub record ShapeFits (marks : List ℕ) (s : Shape) : Type 0 where
   pub is : s ≡ shapeOf marks

@@ -6,19 +6,19 @@ ghost use lib.ListN.{length};
 ghost use lib.Seq.{paste};
 ghost use Rattle.base.specs.Verdict.{Gives};
 ghost use Rattle.base.specs.Written.{Writes};
-ghost use Rattle.collector.specs.Collector.{capacity, parts, fresh, listOf, saidStatus, standingOf, standsAt, taking};
+ghost use Rattle.collector.specs.Collector.{capacity, partLength, parts, fresh, listOf, saidStatus, standingOf, standsAt, taking};
 ghost use Rattle.collector.specs.Shape.{Judged, held};
 use base::refusal::Refusal;
 use base::verdict::Verdict;
 use base::written::Written;
 use base::written::place;
-use crate::shape::bytes_fit;
-use crate::shape::complete_at;
+use crate::shape::complete;
 use crate::shape::length_by;
 use crate::shape::lowest_by;
 use crate::shape::marks_fit;
 use crate::shape::shape_of;
 use crate::shape::shape_with;
+use crate::shape::well_formed;
 
 mod shape;
 
@@ -58,6 +58,13 @@ fn all_marks(marks: [u8; Collector::PARTS])
     ensures { λ _. ⌜ length marks ≡ parts ⌝ }
 {}
 
+// Where a part begins.
+fn start(index: u8) -> usize
+    ensures { λ r. ⌜ r ≡ partLength * index ⌝ }
+{
+    Collector::PART * index as usize
+}
+
 fn stands_at(bytes: &[u8; Collector::CAPACITY], at: usize, part: &[u8]) -> bool
     requires { ⌜ at + length (now part) ≤ capacity ⌝ }
     ensures { λ r. ⌜ r ≡ standsAt (now (bytes .entry)) at (now (part .entry)) ⌝ }
@@ -79,10 +86,7 @@ fn judge(bytes: &[u8; Collector::CAPACITY], marks: &[u8; Collector::PARTS], inde
     all_bytes(*bytes);
     all_marks(*marks);
     let shape = shape_of(marks);
-    if !marks_fit(shape) {
-        return Judgement::Refuse(Refusal::NoForm);
-    }
-    if !bytes_fit(bytes, marks, shape) {
+    if !well_formed(bytes, marks, shape) {
         return Judgement::Refuse(Refusal::NoForm);
     }
     if Collector::LAST_INDEX < index {
@@ -91,8 +95,7 @@ fn judge(bytes: &[u8; Collector::CAPACITY], marks: &[u8; Collector::PARTS], inde
     if Collector::PART < response.len() {
         return Judgement::Refuse(Refusal::TooMuchData);
     }
-    let i = index as usize;
-    let heard = marks[i];
+    let heard = marks[index as usize];
     let mark = (response.len() + 1) as u8;
     if heard == 0 {
         if marks_fit(shape_with(shape, index, mark)) {
@@ -103,7 +106,7 @@ fn judge(bytes: &[u8; Collector::CAPACITY], marks: &[u8; Collector::PARTS], inde
     if heard != mark {
         return Judgement::Refuse(Refusal::Disagrees);
     }
-    if stands_at(bytes, Collector::PART * i, response) {
+    if stands_at(bytes, start(index), response) {
         return Judgement::Keep;
     }
     Judgement::Refuse(Refusal::Disagrees)
@@ -127,9 +130,8 @@ pub fn answer_in(bytes: &mut [u8; Collector::CAPACITY], marks: &mut [u8; Collect
     let judgement = judge(bytes, marks, index, response);
     match judgement {
         Judgement::Store => {
-            let i = index as usize;
-            marks[i] = (response.len() + 1) as u8;
-            put(bytes, Collector::PART * i, response);
+            marks[index as usize] = (response.len() + 1) as u8;
+            put(bytes, start(index), response);
             Verdict::Accepted
         }
         Judgement::Keep => Verdict::Accepted,
@@ -141,17 +143,13 @@ pub fn status_in(bytes: &[u8; Collector::CAPACITY], marks: &[u8; Collector::PART
     ensures { λ r. ⌜ saidStatus r ≡ standingOf (held (now (bytes .entry)) (now (marks .entry))) ⌝ }
 {
     let shape = shape_of(marks);
-    if !marks_fit(shape) {
+    if !well_formed(bytes, marks, shape) {
         return Status::NoForm;
     }
-    if !bytes_fit(bytes, marks, shape) {
-        return Status::NoForm;
-    }
-    let low = lowest_by(shape);
-    if complete_at(marks, low) {
+    if complete(shape) {
         return Status::Complete(length_by(marks, shape));
     }
-    Status::Missing(low as u8)
+    Status::Missing(lowest_by(shape))
 }
 
 // The list, once it is complete, at the start of out.

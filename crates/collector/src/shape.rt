@@ -1,9 +1,12 @@
 // The test of well-formedness in one pass over the marks: four largest bytes, which the compiler vectorises.
 ghost use Prim.Native.Nat.{_+_, _-_, _*_, _<_, _≤_, max};
 ghost use mathlib.Core.Path.{_≡_};
-ghost use Rattle.collector.specs.Collector.{bytesFit, capacity, completeBy, leastTo, lowest, partLength, parts};
-ghost use Rattle.collector.specs.Shape.{ShapeFits, filled, fits, free, holes, most, partly, shapeOf, shapeWith};
+ghost use Rattle.collector.specs.Collector.{bytesFit, capacity, leastTo, partLength, parts, wellFormed};
+ghost use Rattle.collector.specs.Shape.{ShapeFits, completeShape, filled, fits, free, held, holes, most, partly, shapeOf, shapeWith};
 use crate::Collector;
+
+// The mark of a full part.
+const FULL: u8 = Collector::PART as u8 + 1;
 
 // Of the indexes i: the largest i + 1 whose part is not empty, the largest PARTS - i whose part is heard and not full,
 // the largest mark, the largest PARTS - i that is not heard.
@@ -38,7 +41,7 @@ fn partly(j: u8, m: u8) -> u8
     if m == 0 {
         return 0;
     }
-    if (Collector::PART as u8) < m { 0 } else { j }
+    if m < FULL { j } else { 0 }
 }
 
 fn free(j: u8, m: u8) -> u8
@@ -127,7 +130,7 @@ pub(crate) fn length_by(marks: &[u8; Collector::PARTS], shape: Shape) -> usize
 pub(crate) fn marks_fit(shape: Shape) -> bool
     ensures { λ r. ⌜ r ≡ fits shape ⌝ }
 {
-    if Collector::PART + 1 < wide(shape.most) {
+    if FULL < shape.most {
         return false;
     }
     if Collector::PARTS + 1 < wide(shape.top) + wide(shape.gap) {
@@ -153,7 +156,7 @@ pub(crate) fn shape_with(shape: Shape, i: u8, m: u8) -> Shape
 }
 
 // Behind the list's end all is zero, and in the unheard parts before it. Full parts are not read.
-pub(crate) fn bytes_fit(bytes: &[u8; Collector::CAPACITY], marks: &[u8; Collector::PARTS], shape: Shape) -> bool
+fn bytes_fit(bytes: &[u8; Collector::CAPACITY], marks: &[u8; Collector::PARTS], shape: Shape) -> bool
     requires { ⌜ ShapeFits (now marks) shape ⌝ }
     ensures { λ r. ⌜ r ≡ bytesFit (now (bytes .entry)) (now (marks .entry)) ⌝ }
 {
@@ -164,26 +167,30 @@ pub(crate) fn bytes_fit(bytes: &[u8; Collector::CAPACITY], marks: &[u8; Collecto
     holes(bytes, marks, Collector::PARTS - wide(shape.free), wide(shape.top)) == 0
 }
 
-// The lowest unheard index, or PARTS.
-pub(crate) fn lowest_by(shape: Shape) -> usize
+pub(crate) fn well_formed(bytes: &[u8; Collector::CAPACITY], marks: &[u8; Collector::PARTS], shape: Shape) -> bool
+    requires { ⌜ shape ≡ shapeOf (now marks) ⌝ }
+    ensures { λ r. ⌜ r ≡ wellFormed (held (now (bytes .entry)) (now (marks .entry))) ⌝ }
+{
+    if marks_fit(shape) {
+        return bytes_fit(bytes, marks, shape);
+    }
+    false
+}
+
+// Every index was heard, or the first part that is not full stands below the lowest unheard index.
+pub(crate) fn complete(shape: Shape) -> bool
+    ensures { λ r. ⌜ r ≡ completeShape shape ⌝ }
+{
+    if shape.free == 0 {
+        return true;
+    }
+    shape.free < shape.gap
+}
+
+// The lowest unheard index.
+pub(crate) fn lowest_by(shape: Shape) -> u8
     requires { ⌜ shape .free ≤ parts ⌝ }
     ensures { λ r. ⌜ r ≡ parts - shape .free ⌝ }
 {
-    Collector::PARTS - wide(shape.free)
-}
-
-pub(crate) fn complete_at(marks: &[u8; Collector::PARTS], low: usize) -> bool
-    requires { ⌜ low ≡ lowest (now marks) parts ⌝ }
-    ensures { λ r. ⌜ r ≡ completeBy (now (marks .entry)) ⌝ }
-{
-    if low == Collector::PARTS {
-        return true;
-    }
-    if low < 1 {
-        return false;
-    }
-    if Collector::PARTS < low {
-        return false;
-    }
-    wide(marks[low - 1]) < Collector::PART + 1
+    Collector::LAST_INDEX + 1 - shape.free
 }

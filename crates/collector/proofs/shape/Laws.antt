@@ -14,7 +14,7 @@ use Rattle.collector.specs.declared.Collector.{Collector}
 use Rattle.collector.specs.declared.shape.Shape.{Shape}
 use Rattle.base.specs.Choice.{if_then_else_}
 use Rattle.collector.specs.Collector.{_and_, endOf, leastTo, lowest, marksFit, bytesFit, wellFormed, put, completeBy}
-use Rattle.collector.specs.Shape.{maxTo, filled, partly, free, topTo, gapTo, mostTo, freeTo, most, holes, shapeOf, fits, ShapeFits, shapeWith}
+use Rattle.collector.specs.Shape.{maxTo, filled, partly, free, topTo, gapTo, mostTo, freeTo, most, holes, shapeOf, fits, completeShape, ShapeFits, shapeWith}
 use Rattle.collector.proofs.Basic.{both-left, both-right, both-true, bool-cases, lt-or-le, eq-or-ne, end-small, end-large, low-le, le-low, MarksOk, Zeros, marks-fact, fact-marks, bytes-fact, fact-bytes}
 use Rattle.collector.proofs.Parts.{zeros-put}
 use Rattle.collector.proofs.Step.{true-not-false}
@@ -49,6 +49,9 @@ max-with f g n i l z h =
 
 -- the four, of one mark
 
+pub positive : (m : ℕ) → (m ≡ 0 → ⊥) → 1 ≤ m
+positive m nz = ⊎-elim (λ (a : 0 < m). a) (λ (b : m ≤ 0). absurd (nz (omega arith))) (lt-or-le 0 m)
+
 pub filled-no : (j m : ℕ) → m ≤ 1 → filled j m ≡ 0
 filled-no j m h = rw (le-ltb 1 m h)
 
@@ -56,13 +59,13 @@ pub filled-yes : (j m : ℕ) → 1 < m → filled j m ≡ j
 filled-yes j m h = rw (lt-ltb 1 m h)
 
 pub partly-yes : (j m : ℕ) → 1 ≤ m → m ≤ 16 → partly j m ≡ j
-partly-yes j m a b = rw (ne-eqb m 0 (λ (q : m ≡ 0). omega arith), le-ltb 16 m b)
+partly-yes j m a b = rw (ne-eqb m 0 (λ (q : m ≡ 0). omega arith), lt-ltb m 17 (omega arith))
 
 pub partly-none : (j m : ℕ) → m ≡ 0 → partly j m ≡ 0
 partly-none j m h = rw (eq-eqb m 0 h)
 
 pub partly-full : (j m : ℕ) → 16 < m → partly j m ≡ 0
-partly-full j m h = rw (ne-eqb m 0 (λ (q : m ≡ 0). omega arith), lt-ltb 16 m h)
+partly-full j m h = rw (ne-eqb m 0 (λ (q : m ≡ 0). omega arith), le-ltb m 17 (omega arith))
 
 pub free-yes : (j m : ℕ) → m ≡ 0 → free j m ≡ j
 free-yes j m h = rw (eq-eqb m 0 h)
@@ -107,7 +110,7 @@ module _ (ms : List ℕ) where
       max-le (λ k. partly (64 - k) (getD ms k 0)) n t (λ i l.
       ⊎-elim (λ (z : getD ms i 0 ≡ 0). omega (arith, partly-none (64 - i) (getD ms i 0) z))
       (λ (nz : getD ms i 0 ≡ 0 → ⊥).
-      let pos : 1 ≤ getD ms i 0 = ⊎-elim (λ (a : 0 < getD ms i 0). omega arith) (λ (b : getD ms i 0 ≤ 0). absurd (nz (omega arith))) (lt-or-le 0 (getD ms i 0)) in
+      let pos : 1 ≤ getD ms i 0 = positive (getD ms i 0) nz in
       ⊎-elim (λ (big : 16 < getD ms i 0). omega (arith, partly-full (64 - i) (getD ms i 0) big))
       (λ (small : getD ms i 0 ≤ 16). omega (arith, partly-yes (64 - i) (getD ms i 0) pos small, h i l pos small))
       (lt-or-le 16 (getD ms i 0)))
@@ -159,7 +162,7 @@ module _ (ms : List ℕ) where
       ⊎-elim
       (λ (big : 16 < getD ms i 0). omega (arith, sm i l, e, end-large i (getD ms i 0) (omega arith)))
       (λ (small : getD ms i 0 ≤ 16).
-      let pos : 1 ≤ getD ms i 0 = ⊎-elim (λ (a : 0 < getD ms i 0). omega arith) (λ (b : getD ms i 0 ≤ 0). absurd (nz (omega arith))) (lt-or-le 0 (getD ms i 0)) in
+      let pos : 1 ≤ getD ms i 0 = positive (getD ms i 0) nz in
       let t : topTo ms 64 ≤ i + 1 = omega (arith, le-gap 64 i l pos small, f .order) in
       let up : leastTo ms 64 ≤ 16 * i + (getD ms i 0 - 1) = low-le ms 64 (16 * i + (getD ms i 0 - 1)) (λ p pl.
       ⊎-elim
@@ -414,17 +417,55 @@ module _ (ms : List ℕ) (s : Shape) (h : ShapeFits ms s) where
     pub low-is : 16 * (t - 1) + (getD ms (t - 1) 0 - 1) ≡ leastTo ms 64
     low-is = sym (low-last ms fit-of (t - 1) last-is)
 
--- isComplete
+-- complete, by the shape
 
-module _ (ms : List ℕ) (u : ℕ) (e : u ≡ lowest ms 64) where
-  pub by-none : (u ≡ 64 → ⊥) → u < 1 → completeBy ms ≡ false
-  by-none q h = rw (← e, ne-eqb u 64 q, le-ltb 0 u (omega arith))
+module _ (ms : List ℕ) (f : Fit ms) where
+  low-is-free : lowest ms 64 ≡ 64 - freeTo ms 64
+  low-is-free = sym (lowest-free ms)
 
-  pub by-last : (u ≡ 64 → ⊥) → 1 ≤ u → completeBy ms ≡ ltb (getD ms (u - 1) 0) 17
-  by-last q h = rw (← e, ne-eqb u 64 q, lt-ltb 0 u (omega arith))
+  -- the first part that is not full lies at 64 - gap, and none behind it has bytes
+  short-before : 0 < lowest ms 64 → getD ms (lowest ms 64 - 1) 0 < 17 → freeTo ms 64 < gapTo ms 64
+  short-before p q =
+      let r : lowest ms 64 ≤ 64 = lowest-le ms 64 in
+      let n : getD ms (lowest ms 64 - 1) 0 ≡ 0 → ⊥ = lowest-below ms 64 (lowest ms 64 - 1) (omega arith) in
+      let pos : 1 ≤ getD ms (lowest ms 64 - 1) 0 = positive (getD ms (lowest ms 64 - 1) 0) n in
+      omega (arith, le-gap ms 64 (lowest ms 64 - 1) (omega arith) pos (omega arith), low-is-free, free-small ms)
 
-  pub by-within : u ≤ 64
-  by-within = omega (arith, lowest-le ms 64)
+  full-before : 0 < lowest ms 64 → 17 ≤ getD ms (lowest ms 64 - 1) 0 → gapTo ms 64 ≤ freeTo ms 64
+  full-before p q =
+      let r : lowest ms 64 ≤ 64 = lowest-le ms 64 in
+      let t : lowest ms 64 - 1 + 1 ≤ topTo ms 64 = le-top ms 64 (lowest ms 64 - 1) (omega arith) (omega arith) in
+      gap-le ms 64 (freeTo ms 64) (λ i l a b.
+      ⊎-elim
+      (λ (lt : i < lowest ms 64).
+      let e : i ≡ lowest ms 64 - 1 = omega (arith, le-gap ms 64 i l a b, f .order) in
+      let s : getD ms i 0 ≡ getD ms (lowest ms 64 - 1) 0 = ap (λ (x : ℕ). getD ms x 0) e in
+      absurd (omega arith))
+      (λ (ge : lowest ms 64 ≤ i). omega (arith, low-is-free, free-small ms))
+      (lt-or-le i (lowest ms 64)))
+
+  gap-small : gapTo ms 64 ≤ 64
+  gap-small = gap-le ms 64 64 (λ i l a b. omega arith)
+
+  pub complete-by-shape : completeShape (shapeOf ms) ≡ completeBy ms
+  complete-by-shape =
+      ⊎-elim
+      (λ (z : freeTo ms 64 ≡ 0). rw (eq-eqb (freeTo ms 64) 0 z, eq-eqb (lowest ms 64) 64 (omega (arith, low-is-free))))
+      (λ (nz : freeTo ms 64 ≡ 0 → ⊥).
+      let pos : 1 ≤ freeTo ms 64 = positive (freeTo ms 64) nz in
+      let ne : lowest ms 64 ≡ 64 → ⊥ = λ (q : lowest ms 64 ≡ 64). omega (arith, low-is-free) in
+      ⊎-elim
+      (λ (p : 0 < lowest ms 64).
+      ⊎-elim
+      (λ (q : getD ms (lowest ms 64 - 1) 0 < 17).
+      rw (ne-eqb (freeTo ms 64) 0 nz, ne-eqb (lowest ms 64) 64 ne, lt-ltb 0 (lowest ms 64) p, lt-ltb (getD ms (lowest ms 64 - 1) 0) 17 q, lt-ltb (freeTo ms 64) (gapTo ms 64) (short-before p q)))
+      (λ (q : 17 ≤ getD ms (lowest ms 64 - 1) 0).
+      rw (ne-eqb (freeTo ms 64) 0 nz, ne-eqb (lowest ms 64) 64 ne, lt-ltb 0 (lowest ms 64) p, le-ltb (getD ms (lowest ms 64 - 1) 0) 17 q, le-ltb (freeTo ms 64) (gapTo ms 64) (full-before p q)))
+      (lt-or-le (getD ms (lowest ms 64 - 1) 0) 17))
+      (λ (p : lowest ms 64 ≤ 0).
+      rw (ne-eqb (freeTo ms 64) 0 nz, ne-eqb (lowest ms 64) 64 ne, le-ltb 0 (lowest ms 64) p, le-ltb (freeTo ms 64) (gapTo ms 64) (omega (arith, low-is-free, gap-small))))
+      (lt-or-le 0 (lowest ms 64)))
+      (eq-or-ne (freeTo ms 64) 0)
 
 -- the bytes' test, as the code makes it
 

@@ -12,23 +12,17 @@ use Rattle.collector.proofs.shape.marks_fit.Reads as reads
 use Rattle.collector.proofs.shape.marks_fit.Lts as lts
 use Rattle.collector.proofs.shape.wide.Reads as wide-reads
 
-add-if1 : tie.Need-add-if1
-add-if1 c = search needs
-
-wide-requires : tie.Need-wide-requires
-wide-requires c κs = search needs
-
 returns : tie.Need-returns
-returns c = rw (lt-ltb 17 (c .before .before .args .shape .most) (omega (arith, c .before .wide .ensures)))
+returns c = rw (lt-ltb 17 (c .before .before .args .shape .most) (omega arith))
 
 add-if2 : tie.Need-add-if2
 add-if2 c = search needs
 
+wide-requires : tie.Need-wide-requires
+wide-requires c κs = search needs
+
 wide-requires-2 : tie.Need-wide-requires-2
 wide-requires-2 c κs = search needs
-
-wide-requires-3 : tie.Need-wide-requires-3
-wide-requires-3 c κs = search needs
 
 add-if2-2 : tie.Need-add-if2-2
 add-if2-2 c = search needs
@@ -36,12 +30,12 @@ add-if2-2 c = search needs
 returns-2 : tie.Need-returns-2
 returns-2 c =
     let s = c .before .before .before .before .before .args .shape in
-    rw (le-ltb 17 (s .most) (omega (arith, c .before .before .before .before .wide .ensures)), lt-ltb 65 (s .top + s .gap) (omega (arith, c .before .before .wide2 .ensures, c .before .wide3 .ensures)))
+    rw (le-ltb 17 (s .most) (omega arith), lt-ltb 65 (s .top + s .gap) (omega (arith, c .before .before .wide .ensures, c .before .wide2 .ensures)))
 
 returns-3 : tie.Need-returns-3
 returns-3 c =
     let s = c .before .before .before .before .before .args .shape in
-    rw (le-ltb 17 (s .most) (omega (arith, c .before .before .before .before .wide .ensures)), le-ltb 65 (s .top + s .gap) (omega (arith, c .before .before .wide2 .ensures, c .before .wide3 .ensures)))
+    rw (le-ltb 17 (s .most) (omega arith), le-ltb 65 (s .top + s .gap) (omega (arith, c .before .before .wide .ensures, c .before .wide2 .ensures)))
 
 pub marks-fit-spec : {M : Type 1} → statement M
-marks-fit-spec = tie.close (tie.spec add-if1 wide-requires returns add-if2 wide-requires-2 wide-requires-3 add-if2-2 returns-2 returns-3)
+marks-fit-spec = tie.close (tie.spec returns add-if2 wide-requires wide-requires-2 add-if2-2 returns-2 returns-3)
