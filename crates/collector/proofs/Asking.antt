@@ -1,21 +1,17 @@
-use Prim.Native.Nat.{ℕ, zero, suc, _+_, _-_, _*_, _/_, _%_, _≤_, _<_, min, max}
-use mathlib.Core.Path.{_≡_, refl, sym, ap, _∙_, subst}
-use mathlib.Core.Logic.{_⊎_, inl, inr, ⊎-elim}
-use mathlib.Core.List.{List, [], _∷_, _++_}
-use mathlib.Core.Bool.{Bool, true, false}
+use Prim.Native.Nat.{ℕ, zero, suc, _+_, _*_, _≤_, _<_}
+use mathlib.Core.Path.{_≡_, refl, subst}
+use mathlib.Core.Logic.{⊎-elim}
+use mathlib.Core.List.{List, [], _∷_}
+use mathlib.Core.Bool.{true, false}
 use native.Mathlib.Omega.{arith}
 use lib.ListN.{length, take, drop, getD}
-use lib.Seq.{getD-take, getD-drop}
-use Rattle.collector.specs.declared.Collector.{Collector}
-use Rattle.base.specs.Choice.{if_then_else_}
-use Rattle.base.specs.Outcome.{Outcome, accepted, refused}
+use lib.Seq.{getD-drop}
 use Rattle.base.specs.Verdict.{recordOf}
-use Rattle.collector.specs.Collector.{answerOf, fresh, wellFormed, taking, lowest, isComplete}
+use Rattle.collector.specs.Collector.{answerOf, taking, lowest, isComplete}
 use Rattle.collector.specs.Histories.{Call, IsBytes, Calls, Honest, after, isAccepted, lastOf, asking}
-use Rattle.collector.proofs.Basic.{lt-or-le, eq-or-ne, bool-cases, Tells}
-use Rattle.collector.proofs.Parts.{answer-at, answer-length}
+use Rattle.collector.proofs.Basic.{lt-or-le, eq-or-ne, bool-cases}
 use Rattle.collector.proofs.Step.{TellsOf, replicate-zero, fresh-tells}
-use Rattle.collector.proofs.History.{History, history, Stepped, stepped}
+use Rattle.collector.proofs.History.{History, history, stepped}
 use Rattle.collector.proofs.Heard.{Marked, Hears, hears}
 use Rattle.collector.proofs.Complete.{lowest-is, complete-heard, heard-complete}
 

@@ -1,27 +1,27 @@
-use Prim.Native.Nat.{ℕ, zero, suc, _+_, _-_, _*_, _/_, _%_, _≤_, _<_, min, max}
-use mathlib.Core.Path.{_≡_, refl, sym, ap, _∙_, subst}
+use Prim.Native.Nat.{ℕ, zero, suc, _+_, _-_, _*_, _/_, _%_, _≤_, _<_, min}
+use mathlib.Core.Path.{_≡_, refl, sym, _∙_}
 use mathlib.Core.Logic.{_⊎_, inl, inr, ⊎-elim}
-use mathlib.Core.List.{List, [], _∷_, _++_}
+use mathlib.Core.List.{List}
 use mathlib.Core.Bool.{Bool, true, false}
 use native.Mathlib.Omega.{arith}
-use lib.ListN.{length, take, drop, getD, set, replicate, length-take, length-drop, length-append, length-set, List·getD-append, List·getD-eq-default}
-use lib.Seq.{paste, length-paste, getD-take, getD-drop, getD-append-add, getD-set-same, getD-set-other, ext-getD, length-take-le}
+use lib.ListN.{length, take, getD}
+use lib.Seq.{getD-take, length-take-le}
 use lib.Dec.{ltb, eqb}
 use borrow.Author.Tests.{eq-eqb, ne-eqb, lt-ltb, le-ltb, ltb-true, ltb-false, eqb-true, eqb-false}
-use Rattle.collector.specs.Collector.{_and_, _or_, allBelow, answerOf, endOf, leastTo, markFits, byteFits, marksFit, bytesFit}
+use Rattle.collector.specs.Collector.{_and_, allBelow, endOf, leastTo, markFits, byteFits, marksFit, bytesFit}
 
-pub both-left : (a b : Bool) → _and_ a b ≡ true → a ≡ true
+pub both-left : (a b : Bool) → (a and b) ≡ true → a ≡ true
 both-left true b e = refl
 both-left false b e = e
 
-pub both-right : (a b : Bool) → _and_ a b ≡ true → b ≡ true
+pub both-right : (a b : Bool) → (a and b) ≡ true → b ≡ true
 both-right true b e = e
 both-right false b e = absurd (never e)
   where
     never : false ≡ true → ⊥
     never q = let z : _≡_ {A = ℕ} 0 1 = cc in omega arith
 
-pub both-true : (a b : Bool) → a ≡ true → b ≡ true → _and_ a b ≡ true
+pub both-true : (a b : Bool) → a ≡ true → b ≡ true → (a and b) ≡ true
 both-true a b e f = rw (e, f)
 
 pub bool-cases : (b : Bool) → (b ≡ true) ⊎ (b ≡ false)

@@ -1,20 +1,17 @@
-use Prim.Native.Nat.{ℕ, zero, suc, _+_, _-_, _*_, _/_, _%_, _≤_, _<_, min, max}
-use mathlib.Core.Path.{_≡_, refl, sym, ap, _∙_, subst}
+use Prim.Native.Nat.{ℕ, zero, suc, _-_, _*_, _/_, _≤_, _<_, min}
+use mathlib.Core.Path.{_≡_, refl, _∙_}
 use mathlib.Core.Logic.{_⊎_, inl, inr, ⊎-elim}
-use mathlib.Core.List.{List, [], _∷_, _++_}
+use mathlib.Core.List.{List}
 use mathlib.Core.Bool.{Bool, true, false}
 use native.Mathlib.Omega.{arith}
-use lib.ListN.{length, take, drop, getD}
+use lib.ListN.{length, take, getD}
 use lib.Seq.{getD-take, ext-getD, length-take-le}
 use lib.Dec.{ltb, eqb}
-use borrow.Author.Tests.{eq-eqb, ne-eqb, lt-ltb, le-ltb, ltb-true, ltb-false, eqb-true, eqb-false}
+use borrow.Author.Tests.{eq-eqb, ne-eqb, lt-ltb, le-ltb, ltb-true, eqb-true}
 use Rattle.collector.specs.declared.Collector.{Collector}
-use Rattle.base.specs.Choice.{if_then_else_}
-use Rattle.base.specs.Outcome.{Outcome, accepted, refused}
-use Rattle.base.specs.Verdict.{recordOf}
-use Rattle.collector.specs.Collector.{_and_, _or_, endOf, leastTo, lowest, wellFormed, isComplete}
+use Rattle.collector.specs.Collector.{_and_, _or_, leastTo, lowest, isComplete}
 use Rattle.collector.specs.Histories.{Held, lastOf}
-use Rattle.collector.proofs.Basic.{both-left, both-right, both-true, bool-cases, lt-or-le, eq-or-ne, MarksOk, Tells, le-low, end-large, low-under}
+use Rattle.collector.proofs.Basic.{both-left, both-right, both-true, lt-or-le, eq-or-ne, le-low, end-large, low-under}
 use Rattle.collector.proofs.Step.{TellsOf}
 use Rattle.collector.proofs.Heard.{Marked}
 
@@ -66,11 +63,11 @@ lowest-is ms n k kn below at =
 
 -- (c) isComplete
 
-either-cases : (a b : Bool) → _or_ a b ≡ true → (a ≡ true) ⊎ (b ≡ true)
+either-cases : (a b : Bool) → (a or b) ≡ true → (a ≡ true) ⊎ (b ≡ true)
 either-cases true b e = inl refl
 either-cases false b e = inr e
 
-either-right : (a b : Bool) → b ≡ true → _or_ a b ≡ true
+either-right : (a b : Bool) → b ≡ true → (a or b) ≡ true
 either-right true b e = refl
 either-right false b e = e
 
@@ -84,7 +81,7 @@ module _ (c : Collector) (l : List ℕ) (t : TellsOf l c) where
   past e =
       let s : length l ≤ 1024 = t .size in
       ⊎-elim (λ (f : eqb (lowest (c .marks) 64) 64 ≡ true). let q : lowest (c .marks) 64 ≡ 64 = eqb-true _ _ f in omega arith)
-      (λ (f : _and_ (ltb 0 (lowest (c .marks) 64)) (ltb (getD (c .marks) (lowest (c .marks) 64 - 1) 0) 17) ≡ true).
+      (λ (f : (ltb 0 (lowest (c .marks) 64) and ltb (getD (c .marks) (lowest (c .marks) 64 - 1) 0) 17) ≡ true).
       let p : 0 < lowest (c .marks) 64 = ltb-true _ _ (both-left _ _ f) in
       let q : getD (c .marks) (lowest (c .marks) 64 - 1) 0 < 17 = ltb-true _ _ (both-right (ltb 0 (lowest (c .marks) 64)) _ f) in
       let r : lowest (c .marks) 64 ≤ 64 = lowest-le (c .marks) 64 in

@@ -9,14 +9,14 @@ use lib.ListN.{length, getD}
 use Rattle.base.specs.Choice.{if_then_else_}
 use Rattle.base.specs.Outcome.{Outcome, accepted, refused}
 use Rattle.base.specs.Verdict.{recordOf}
-use Rattle.collector.specs.Collector.{Standing, complete, missing, lastIndex, partLength, capacity, parts, answerOf, leastTo, wellFormed, taking, lowest, isComplete, standingOf, listOf}
+use Rattle.collector.specs.Collector.{complete, missing, lastIndex, partLength, capacity, answerOf, leastTo, wellFormed, taking, lowest, isComplete, standingOf, listOf}
 use Rattle.collector.specs.Histories.{Call, IsBytes, Calls, after, isAccepted, acceptedOf, Explains, Explained, Honest, HeardIn, Among, lastOf, asking, Reachable, Held}
 use Rattle.collector.specs.declared.Collector.{Collector}
 use Rattle.collector.proofs.Asking.{Asked, asked, honest-calls, honest-accepted, honest-tells, not-yet}
 use Rattle.collector.proofs.Basic.{bool-cases, lt-or-le, eq-or-ne}
 use Rattle.collector.proofs.Complete.{lowest-le, lowest-below, lowest-at, lowest-is, complete-heard, complete-low, complete-bytes, heard-complete}
 use Rattle.collector.proofs.Entries.{taking-9, standing-9, standing-complete, standing-missing, list-9, list-complete, list-missing}
-use Rattle.collector.proofs.Heard.{Marked, known, among-heard, among-explains, repeat-accepted}
+use Rattle.collector.proofs.Heard.{known, among-explains, repeat-accepted}
 use Rattle.collector.proofs.History.{History, history, explained, accepted-explained, explained-accepted}
 use Rattle.collector.proofs.Parts.{answer-length}
 use Rattle.collector.proofs.Reach.{wf-reachable, reachable-wf}

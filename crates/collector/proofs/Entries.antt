@@ -1,16 +1,15 @@
 -- What each entry answers, by the tests that the code makes.
 use Prim.Native.Nat.{ℕ, suc, _+_, _-_, _*_, _≤_, _<_}
-use mathlib.Core.Path.{_≡_, refl, sym, ap, _∙_, subst}
-use mathlib.Core.Logic.{_⊎_, ⊎-elim}
+use mathlib.Core.Path.{_≡_, sym, ap, _∙_, subst}
+use mathlib.Core.Logic.{⊎-elim}
 use mathlib.Core.List.{List, [], _∷_}
-use mathlib.Core.Bool.{Bool, true, false}
+use mathlib.Core.Bool.{true, false}
 use native.Mathlib.Omega.{arith}
 use native.Mathlib.Numerals.{add-one}
 use lib.ListN.{length, getD, set, take, drop}
 use lib.Seq.{paste}
 use borrow.Author.Tests.{eq-eqb, ne-eqb, lt-ltb, le-ltb}
 use Rattle.base.specs.Outcome.{Outcome, accepted, refused}
-use Rattle.base.specs.Refusal.{refusal}
 use Rattle.base.specs.Verdict.{Gives}
 use Rattle.base.specs.Written.{Writes}
 use Rattle.base.specs.declared.written.Written.{Written}
@@ -21,7 +20,7 @@ use Rattle.collector.specs.declared.Collector.{Collector}
 use Rattle.collector.specs.declared.Judgement.{Judgement}
 use Rattle.collector.specs.declared.Judgement.the-variants.{Store, Keep, Refuse}
 use Rattle.collector.specs.declared.shape.Shape.{Shape}
-use Rattle.collector.specs.Collector.{Standing, complete, missing, marksFit, bytesFit, wellFormed, standsAt, holds, put, joining, taking, completeBy, isComplete, standingOf, listOf, leastTo, lowest}
+use Rattle.collector.specs.Collector.{complete, missing, marksFit, bytesFit, wellFormed, standsAt, holds, put, joining, taking, isComplete, standingOf, listOf, leastTo, lowest}
 use Rattle.collector.specs.Shape.{shapeOf, fits, completeShape, ShapeFits, shapeWith, held, Judged}
 use Rattle.collector.proofs.Basic.{both-left, bool-cases, low-small}
 use Rattle.collector.proofs.Step.{wf-marks}

@@ -1,17 +1,17 @@
-use Prim.Native.Nat.{ℕ, zero, suc, _+_, _-_, _*_, _/_, _%_, _≤_, _<_, min, max}
+use Prim.Native.Nat.{ℕ, suc, _≤_, _<_}
 use mathlib.Core.Path.{_≡_, refl, sym, ap, _∙_, subst}
 use mathlib.Core.Logic.{_⊎_, inl, inr, ⊎-elim}
-use mathlib.Core.List.{List, [], _∷_, _++_}
+use mathlib.Core.List.{List, [], _∷_}
 use mathlib.Core.Bool.{Bool, true, false}
 use native.Mathlib.Omega.{arith}
-use lib.ListN.{length, take, drop, getD}
+use lib.ListN.{length, getD}
 use Rattle.collector.specs.declared.Collector.{Collector}
 use Rattle.base.specs.Choice.{if_then_else_}
 use Rattle.base.specs.Outcome.{Outcome, accepted, refused}
 use Rattle.base.specs.Verdict.{recordOf}
-use Rattle.collector.specs.Collector.{answerOf, fresh, leastTo, wellFormed, holds, put, taking}
-use Rattle.collector.specs.Histories.{Call, IsBytes, Calls, Explains, Explained, Held, after, isAccepted, acceptedOf, HeardIn, Among}
-use Rattle.collector.proofs.Basic.{lt-or-le, eq-or-ne, MarksOk, Zeros, Tells}
+use Rattle.collector.specs.Collector.{answerOf, wellFormed, put, taking}
+use Rattle.collector.specs.Histories.{Call, Calls, Explains, Explained, Held, after, isAccepted, acceptedOf, HeardIn, Among}
+use Rattle.collector.proofs.Basic.{eq-or-ne}
 use Rattle.collector.proofs.Parts.{mark-here, mark-other}
 use Rattle.collector.proofs.Step.{TellsOf, true-not-false, replicate-zero, answer-same, StepView, view}
 use Rattle.collector.proofs.Step.StepView.{bad-index, too-long, repeats, differs, joins, clashes}

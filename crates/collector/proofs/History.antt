@@ -1,18 +1,17 @@
-use Prim.Native.Nat.{ℕ, zero, suc, _+_, _-_, _*_, _/_, _%_, _≤_, _<_, min, max}
-use mathlib.Core.Path.{_≡_, refl, sym, ap, _∙_, subst}
-use mathlib.Core.Logic.{_⊎_, inl, inr, ⊎-elim}
-use mathlib.Core.List.{List, [], _∷_, _++_}
+use Prim.Native.Nat.{ℕ, zero, suc, _≤_, _<_}
+use mathlib.Core.Path.{_≡_, refl, sym, ap, subst}
+use mathlib.Core.List.{List, [], _∷_}
 use mathlib.Core.Bool.{Bool, true, false}
 use native.Mathlib.Omega.{arith}
-use lib.ListN.{length, take, drop, getD}
-use lib.Seq.{getD-take, length-take-le}
+use lib.ListN.{length, take}
+use lib.Seq.{length-take-le}
 use Rattle.collector.specs.declared.Collector.{Collector}
 use Rattle.base.specs.Choice.{if_then_else_}
-use Rattle.base.specs.Outcome.{Outcome, accepted, refused}
+use Rattle.base.specs.Outcome.{Outcome, refused}
 use Rattle.base.specs.Verdict.{recordOf}
-use Rattle.collector.specs.Collector.{answerOf, fresh, leastTo, wellFormed, holds, put, taking}
+use Rattle.collector.specs.Collector.{answerOf, leastTo, wellFormed, put, taking}
 use Rattle.collector.specs.Histories.{Call, IsBytes, Calls, Explains, Explained, Held, after, isAccepted, acceptedOf}
-use Rattle.collector.proofs.Basic.{lt-or-le, MarksOk, Zeros, Tells, low-small, tells-low}
+use Rattle.collector.proofs.Basic.{MarksOk, low-small, tells-low}
 use Rattle.collector.proofs.Parts.{answer-length, zeros-put, tells-put, tells-old, tells-new}
 use Rattle.collector.proofs.Step.{TellsOf, true-not-false, wf-marks, wf-zeros, wf-of, fresh-typed, fresh-tells, fresh-wf, same-answer, answer-same, put-typed, StepView, view}
 use Rattle.collector.proofs.Step.StepView.{bad-index, too-long, repeats, differs, joins, clashes}

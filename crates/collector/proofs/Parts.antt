@@ -1,15 +1,12 @@
-use Prim.Native.Nat.{ℕ, zero, suc, _+_, _-_, _*_, _/_, _%_, _≤_, _<_, min, max}
-use mathlib.Core.Path.{_≡_, refl, sym, ap, _∙_, subst}
-use mathlib.Core.Logic.{_⊎_, inl, inr, ⊎-elim}
-use mathlib.Core.List.{List, [], _∷_, _++_}
-use mathlib.Core.Bool.{Bool, true, false}
+use Prim.Native.Nat.{ℕ, suc, _+_, _-_, _*_, _/_, _%_, _≤_, _<_, min}
+use mathlib.Core.Path.{_≡_, sym, ap, _∙_, subst}
+use mathlib.Core.Logic.{⊎-elim}
+use mathlib.Core.List.{List, _++_}
 use native.Mathlib.Omega.{arith}
-use lib.ListN.{length, take, drop, getD, set, replicate, length-take, length-drop, length-append, length-set, List·getD-append, List·getD-eq-default}
-use lib.Seq.{paste, length-paste, length-paste-head, getD-take, getD-drop, getD-append-add, getD-set-same, getD-set-other, ext-getD, length-take-le}
-use lib.Dec.{ltb, eqb}
-use borrow.Author.Tests.{eq-eqb, ne-eqb, lt-ltb, le-ltb, ltb-true, ltb-false, eqb-true, eqb-false}
+use lib.ListN.{length, take, drop, getD, set, length-take, length-drop, List·getD-append}
+use lib.Seq.{paste, length-paste-head, getD-take, getD-drop, getD-append-add, getD-set-same, getD-set-other, ext-getD, length-take-le}
 use Rattle.collector.specs.Collector.{answerOf}
-use Rattle.collector.proofs.Basic.{lt-or-le, eq-or-ne, MarksOk, Zeros, Tells}
+use Rattle.collector.proofs.Basic.{lt-or-le, eq-or-ne, Zeros, Tells}
 
 -- the answer of a list
 

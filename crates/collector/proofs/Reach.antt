@@ -1,22 +1,21 @@
-use Prim.Native.Nat.{ℕ, zero, suc, _+_, _-_, _*_, _/_, _%_, _≤_, _<_, min, max}
+use Prim.Native.Nat.{ℕ, zero, suc, _+_, _-_, _*_, _/_, _%_, _≤_, _<_}
 use mathlib.Core.Path.{_≡_, refl, sym, ap, _∙_, subst}
-use mathlib.Core.Logic.{_⊎_, inl, inr, ⊎-elim}
-use mathlib.Core.List.{List, [], _∷_, _++_}
-use mathlib.Core.Bool.{Bool, true, false}
+use mathlib.Core.Logic.{⊎-elim}
+use mathlib.Core.List.{List, [], _∷_}
+use mathlib.Core.Bool.{true}
 use native.Mathlib.Omega.{arith}
 use lib.ListN.{length, take, drop, getD, set, replicate, length-take, length-drop, length-set, length-replicate}
 use lib.Seq.{paste, length-paste, getD-take, getD-drop, getD-set-same, getD-set-other, ext-getD, set-set, set-getD}
 use Rattle.collector.specs.declared.Collector.{Collector}
-use Rattle.base.specs.Choice.{if_then_else_}
-use Rattle.base.specs.Outcome.{Outcome, accepted, refused}
+use Rattle.base.specs.Outcome.{Outcome, accepted}
 use Rattle.base.specs.Verdict.{recordOf}
-use Rattle.collector.specs.Collector.{answerOf, fresh, leastTo, wellFormed, holds, put, taking}
-use Rattle.collector.specs.Histories.{Call, IsBytes, Calls, Held, after, Reachable}
-use Rattle.collector.proofs.Basic.{lt-or-le, eq-or-ne, MarksOk, Zeros, Tells, low-small, tells-low}
-use Rattle.collector.proofs.Parts.{byte-in, byte-out, byte-other, mark-here, mark-other, paste-before, paste-after}
-use Rattle.collector.proofs.Step.{TellsOf, true-not-false, replicate-zero, wf-marks, wf-zeros, wf-of, put-typed, StepView, view}
+use Rattle.collector.specs.Collector.{fresh, leastTo, wellFormed, put, taking}
+use Rattle.collector.specs.Histories.{Held, after, Reachable}
+use Rattle.collector.proofs.Basic.{lt-or-le, eq-or-ne, Zeros, tells-low}
+use Rattle.collector.proofs.Parts.{byte-in, byte-out, byte-other}
+use Rattle.collector.proofs.Step.{TellsOf, true-not-false, replicate-zero, wf-marks, wf-zeros, wf-of, StepView, view}
 use Rattle.collector.proofs.Step.StepView.{bad-index, too-long, repeats, differs, joins, clashes}
-use Rattle.collector.proofs.History.{History, history}
+use Rattle.collector.proofs.History.{history}
 use Rattle.collector.proofs.Heard.{Marked}
 use Rattle.collector.proofs.Asking.{take-bytes, drop-bytes}
 

@@ -1,21 +1,20 @@
-use Prim.Native.Nat.{ℕ, zero, suc, _+_, _-_, _*_, _/_, _%_, _≤_, _<_, min, max}
-use mathlib.Core.Path.{_≡_, refl, sym, ap, _∙_, subst}
-use mathlib.Core.Logic.{_⊎_, inl, inr, ⊎-elim}
-use mathlib.Core.List.{List, [], _∷_, _++_}
+use Prim.Native.Nat.{ℕ, zero, suc, _+_, _-_, _*_, _/_, _≤_, _<_, min}
+use mathlib.Core.Path.{_≡_, refl, sym, ap, _∙_}
+use mathlib.Core.Logic.{⊎-elim}
+use mathlib.Core.List.{List, []}
 use mathlib.Core.Bool.{Bool, true, false}
 use native.Mathlib.Omega.{arith}
-use lib.ListN.{length, take, drop, getD, set, replicate, length-take, length-drop, length-append, length-set, length-replicate, List·getD-append, List·getD-eq-default}
-use lib.Seq.{paste, length-paste, length-paste-head, getD-take, getD-drop, getD-append-add, getD-set-same, getD-set-other, ext-getD, length-take-le}
+use lib.ListN.{length, getD, replicate, length-set, length-replicate}
+use lib.Seq.{length-paste}
 use lib.Dec.{ltb, eqb}
-use borrow.Author.Tests.{eq-eqb, ne-eqb, lt-ltb, le-ltb, ltb-true, ltb-false, eqb-true, eqb-false}
+use borrow.Author.Tests.{eq-eqb, ltb-true, ltb-false, eqb-true, eqb-false}
 use Rattle.collector.specs.declared.Collector.{Collector}
 use Rattle.base.specs.Choice.{if_then_else_}
 use Rattle.base.specs.Outcome.{Outcome, accepted, refused}
-use Rattle.base.specs.Verdict.{recordOf}
-use Rattle.collector.specs.Collector.{_and_, allBelow, answerOf, fresh, leastTo, marksFit, bytesFit, wellFormed, standsAt, holds, put, taking, joining}
+use Rattle.collector.specs.Collector.{allBelow, answerOf, fresh, leastTo, marksFit, bytesFit, wellFormed, standsAt, holds, put, taking, joining}
 use Rattle.collector.specs.Histories.{Held, IsBytes}
-use Rattle.collector.proofs.Basic.{both-left, both-right, both-true, bool-cases, all-of, all-at, lt-or-le, eq-or-ne, MarksOk, Zeros, Tells, marks-fact, fact-marks, bytes-fact, fact-bytes, low-fits, low-small, tells-low}
-use Rattle.collector.proofs.Parts.{answer-length, answer-at, answer-is, paste-before, paste-in, paste-after, zeros-put, tells-put, tells-old, tells-new, byte-in, byte-out}
+use Rattle.collector.proofs.Basic.{both-left, both-right, both-true, all-of, all-at, lt-or-le, MarksOk, Zeros, Tells, marks-fact, fact-marks, bytes-fact, fact-bytes, low-fits}
+use Rattle.collector.proofs.Parts.{answer-length, answer-at, answer-is, paste-before, paste-after, byte-in}
 
 abbrev pub TellsOf : List ℕ → Collector → Type 0
 TellsOf l c = Tells l (c .bytes) (c .marks)

@@ -8,10 +8,6 @@ ghost use Rattle.base.specs.Verdict.{Gives};
 ghost use Rattle.base.specs.Written.{Writes};
 ghost use Rattle.collector.specs.Collector.{capacity, partLength, parts, fresh, listOf, saidStatus, standingOf, standsAt, taking};
 ghost use Rattle.collector.specs.Shape.{Judged, held};
-use base::refusal::Refusal;
-use base::verdict::Verdict;
-use base::written::Written;
-use base::written::place;
 use crate::shape::complete;
 use crate::shape::length_by;
 use crate::shape::lowest_by;
@@ -19,6 +15,10 @@ use crate::shape::marks_fit;
 use crate::shape::shape_of;
 use crate::shape::shape_with;
 use crate::shape::well_formed;
+use base::refusal::Refusal;
+use base::verdict::Verdict;
+use base::written::Written;
+use base::written::place;
 
 mod shape;
 
@@ -80,7 +80,12 @@ fn stands_at(bytes: &[u8; Collector::CAPACITY], at: usize, part: &[u8]) -> bool
 }
 
 // Reads only: the arrays of a refused answer are never written.
-fn judge(bytes: &[u8; Collector::CAPACITY], marks: &[u8; Collector::PARTS], index: u8, response: &[u8]) -> Judgement
+fn judge(
+    bytes: &[u8; Collector::CAPACITY],
+    marks: &[u8; Collector::PARTS],
+    index: u8,
+    response: &[u8],
+) -> Judgement
     ensures { λ r. ⌜ Judged (held (now (bytes .entry)) (now (marks .entry))) index (now (response .entry)) r ⌝ }
 {
     all_bytes(*bytes);
@@ -124,7 +129,12 @@ fn put(bytes: &mut [u8; Collector::CAPACITY], at: usize, part: &[u8])
     }
 }
 
-pub fn answer_in(bytes: &mut [u8; Collector::CAPACITY], marks: &mut [u8; Collector::PARTS], index: u8, response: &[u8]) -> Verdict
+pub fn answer_in(
+    bytes: &mut [u8; Collector::CAPACITY],
+    marks: &mut [u8; Collector::PARTS],
+    index: u8,
+    response: &[u8],
+) -> Verdict
     ensures { λ r. ⌜ Gives (taking (held (now (bytes .entry)) (now (marks .entry))) index (now (response .entry))) (held (now (bytes .entry)) (now (marks .entry))) r (held (now (bytes .exit)) (now (marks .exit))) ⌝ }
 {
     let judgement = judge(bytes, marks, index, response);
@@ -153,7 +163,11 @@ pub fn status_in(bytes: &[u8; Collector::CAPACITY], marks: &[u8; Collector::PART
 }
 
 // The list, once it is complete, at the start of out.
-pub fn list_in(bytes: &[u8; Collector::CAPACITY], marks: &[u8; Collector::PARTS], out: &mut [u8]) -> Written
+pub fn list_in(
+    bytes: &[u8; Collector::CAPACITY],
+    marks: &[u8; Collector::PARTS],
+    out: &mut [u8],
+) -> Written
     ensures { λ r. ⌜ Writes (listOf (held (now (bytes .entry)) (now (marks .entry)))) r (now (out .entry)) (now (out .exit)) ⌝ }
 {
     let status = status_in(bytes, marks);

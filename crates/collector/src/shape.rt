@@ -101,7 +101,12 @@ fn hole(bytes: &[u8; Collector::CAPACITY], i: usize, m: u8) -> u8
 }
 
 // The largest byte of the unheard parts.
-fn holes(bytes: &[u8; Collector::CAPACITY], marks: &[u8; Collector::PARTS], from: usize, to: usize) -> u8
+fn holes(
+    bytes: &[u8; Collector::CAPACITY],
+    marks: &[u8; Collector::PARTS],
+    from: usize,
+    to: usize,
+) -> u8
     requires { ⌜ to ≤ parts ⌝ }
     ensures { λ r. ⌜ r ≡ holes (now (bytes .entry)) (now (marks .entry)) from (to - from) ⌝ }
 {
@@ -156,7 +161,11 @@ pub(crate) fn shape_with(shape: Shape, i: u8, m: u8) -> Shape
 }
 
 // Behind the list's end all is zero, and in the unheard parts before it. Full parts are not read.
-fn bytes_fit(bytes: &[u8; Collector::CAPACITY], marks: &[u8; Collector::PARTS], shape: Shape) -> bool
+fn bytes_fit(
+    bytes: &[u8; Collector::CAPACITY],
+    marks: &[u8; Collector::PARTS],
+    shape: Shape,
+) -> bool
     requires { ⌜ ShapeFits (now marks) shape ⌝ }
     ensures { λ r. ⌜ r ≡ bytesFit (now (bytes .entry)) (now (marks .entry)) ⌝ }
 {
@@ -164,10 +173,20 @@ fn bytes_fit(bytes: &[u8; Collector::CAPACITY], marks: &[u8; Collector::PARTS], 
     if most(bytes, end, Collector::CAPACITY - end) != 0 {
         return false;
     }
-    holes(bytes, marks, Collector::PARTS - wide(shape.free), wide(shape.top)) == 0
+    holes(
+        bytes,
+        marks,
+        Collector::PARTS - wide(shape.free),
+        wide(shape.top),
+    )
+        == 0
 }
 
-pub(crate) fn well_formed(bytes: &[u8; Collector::CAPACITY], marks: &[u8; Collector::PARTS], shape: Shape) -> bool
+pub(crate) fn well_formed(
+    bytes: &[u8; Collector::CAPACITY],
+    marks: &[u8; Collector::PARTS],
+    shape: Shape,
+) -> bool
     requires { ⌜ shape ≡ shapeOf (now marks) ⌝ }
     ensures { λ r. ⌜ r ≡ wellFormed (held (now (bytes .entry)) (now (marks .entry))) ⌝ }
 {

@@ -1,19 +1,10 @@
-use mathlib.Core.Path.{_≡_, refl, sym, ap, _∙_}
+use mathlib.Core.Path.{refl}
 use native.Mathlib.Omega.{arith}
 use Rattle.collector.specs.Shape.{held}
 use Rattle.collector.proofs.Entries.{stored, left-store, left-keep, left-refuse}
 use borrow.Author.Needs.{needs}
 use Rattle.collector.proofs.answer_in.Statement.{statement}
 use Rattle.collector.proofs.answer_in.Tie as tie
-
-judge-requires : tie.Need-judge-requires
-judge-requires c κs = search needs
-
-enum-told : tie.Need-enum-told
-enum-told c = search needs
-
-add-marks : tie.Need-add-marks
-add-marks c = search needs
 
 cast-marks : tie.Need-cast-marks
 cast-marks c =
@@ -29,21 +20,12 @@ element-write-marks c =
     let k = stored (held (a .bytes .now) (a .marks .now)) (a .index) (a .response .now) (j .judge .result) (j .judge .ensures) (c .enum-told .given .1) .1 in
     omega (arith, k .0)
 
-start-requires : tie.Need-start-requires
-start-requires c κs = search needs
-
 put-requires : tie.Need-put-requires
 put-requires c κs =
     let j = c .before .before .before .before in
     let a = j .before .before .before .before .args in
     let k = stored (held (a .bytes .now) (a .marks .now)) (a .index) (a .response .now) (j .judge .result) (j .judge .ensures) (c .before .before .enum-told .given .1) .1 in
     omega (arith, k .0, k .1, c .start .ensures)
-
-enum-told-2 : tie.Need-enum-told-2
-enum-told-2 c = search needs
-
-enum-known-judgement : tie.Need-enum-known-judgement
-enum-known-judgement c = search needs
 
 returns : tie.Need-returns
 returns c =
@@ -68,15 +50,15 @@ pub answer-in-spec : {M : Type 1} → statement M
 answer-in-spec =
     tie.close
     (tie.spec
-    judge-requires
-    enum-told
-    add-marks
+    (search needs)
+    (search needs)
+    (search needs)
     cast-marks
     element-write-marks
-    start-requires
+    (search needs)
     put-requires
-    enum-told-2
-    enum-known-judgement
+    (search needs)
+    (search needs)
     returns
     returns-2
     returns-3)

@@ -1,4 +1,4 @@
-use mathlib.Core.Path.{_≡_, refl, sym, ap, _∙_}
+use mathlib.Core.Path.{refl, sym, ap, _∙_}
 use native.Mathlib.Omega.{arith}
 use Prim.Native.Nat.{_+_}
 use borrow.Author.Tests.{not-true, not-false}
@@ -8,18 +8,6 @@ use Rattle.collector.proofs.Entries.{taking-9, says-7, says-2, says-sto
 use borrow.Author.Needs.{needs}
 use Rattle.collector.proofs.judge.Statement.{statement}
 use Rattle.collector.proofs.judge.Tie as tie
-
-all-bytes-requires : tie.Need-all-bytes-requires
-all-bytes-requires c κs = search needs
-
-all-marks-requires : tie.Need-all-marks-requires
-all-marks-requires c κs = search needs
-
-shape-of-requires : tie.Need-shape-of-requires
-shape-of-requires c κs = search needs
-
-well-formed-requires : tie.Need-well-formed-requires
-well-formed-requires c κs = search needs
 
 returns : tie.Need-returns
 returns c =
@@ -44,21 +32,6 @@ returns-3 c =
     let a = s .before .before .before .before .before .before .args in
     let w = sym (f .well-formed .ensures) ∙ not-false _ (k .if1 .left) in
     says-2 (a .bytes .now) (a .marks .now) (s .shape-of .result) (s .shape-of .ensures) w (a .index) (a .response .now) (omega arith) (omega arith)
-
-element-copy-out-heard : tie.Need-element-copy-out-heard
-element-copy-out-heard c = search needs
-
-add-mark : tie.Need-add-mark
-add-mark c = search needs
-
-cast-mark : tie.Need-cast-mark
-cast-mark c = search needs
-
-shape-with-requires : tie.Need-shape-with-requires
-shape-with-requires c κs = search needs
-
-marks-fit-requires : tie.Need-marks-fit-requires
-marks-fit-requires c κs = search needs
 
 returns-4 : tie.Need-returns-4
 returns-4 c =
@@ -89,9 +62,6 @@ returns-6 c =
     let w = sym (f .well-formed .ensures) ∙ not-false _ (k .if1 .left) in
     says-other (a .bytes .now) (a .marks .now) (s .shape-of .result) (s .shape-of .ensures) w (a .index) (a .response .now) (omega (arith, c .before .before .before .before .if2 .left)) (omega (arith, c .before .before .before .if3 .left)) (getD (a .marks .now) (a .index) 0) (length (a .response .now) + 1) refl refl (c .before .if4 .left) (c .if6 .taken)
 
-start-requires : tie.Need-start-requires
-start-requires c κs = search needs
-
 stands-at-requires : tie.Need-stands-at-requires
 stands-at-requires c κs = omega (arith, c .start .ensures)
 
@@ -119,22 +89,22 @@ pub judge-spec : {M : Type 1} → statement M
 judge-spec =
     tie.close
     (tie.spec
-    all-bytes-requires
-    all-marks-requires
-    shape-of-requires
-    well-formed-requires
+    (search needs)
+    (search needs)
+    (search needs)
+    (λ c κs. search needs)
     returns
     returns-2
     returns-3
-    element-copy-out-heard
-    add-mark
-    cast-mark
-    shape-with-requires
-    marks-fit-requires
+    (search needs)
+    (search needs)
+    (search needs)
+    (search needs)
+    (search needs)
     returns-4
     returns-5
     returns-6
-    start-requires
+    (search needs)
     stands-at-requires
     returns-7
     returns-8)

@@ -8,52 +8,13 @@ use Rattle.collector.proofs.Entries.{told-within, listing, unlisted, un
 use borrow.Author.Needs.{needs}
 use Rattle.collector.proofs.list_in.Statement.{statement}
 use Rattle.collector.proofs.list_in.Tie as tie
-use Rattle.collector.proofs.list_in.Reads as reads
-use Rattle.collector.proofs.list_in.Lts as lts
-use Rattle.base.proofs.written.place.Reads as place-reads
-use Rattle.collector.proofs.status_in.Reads as status-in-reads
 
-
--- src/lib.rt:161:9
-status-in-requires : tie.Need-status-in-requires
-status-in-requires c κs = search needs
-
--- src/lib.rt:163:26
-enum-known-status : tie.Need-enum-known-status
-enum-known-status c = search needs
-
--- src/lib.rt:165:19
-sub-place : tie.Need-sub-place
-sub-place c = search needs
-
--- src/lib.rt:165:19
-part-place-start : tie.Need-part-place-start
-part-place-start c = search needs
-
--- src/lib.rt:165:19
 part-place-end : tie.Need-part-place-end
 part-place-end c =
     let k = c .before .before in
     let a = k .before .before .before .before .args in
     omega (arith, c .all .given .0, told-within (held (a .bytes .now) (a .marks .now)) (k .status .given .0 .0) (sym (k .before .before .status-in .ensures) ∙ ap saidStatus (k .status .given .1)))
 
--- src/lib.rt:165:13
-place-requires : tie.Need-place-requires
-place-requires c κs = search needs
-
--- src/lib.rt:167:25
-enum-known-status-2 : tie.Need-enum-known-status-2
-enum-known-status-2 c = search needs
-
--- src/lib.rt:168:44
-enum-told : tie.Need-enum-told
-enum-told c = search needs
-
--- src/lib.rt:158:1
-same-length : tie.Need-same-length
-same-length c = search needs
-
--- src/lib.rt:158:1
 returns : tie.Need-returns
 returns c =
     let p = c .before .before in
@@ -61,14 +22,12 @@ returns c =
     let a = k .before .before .before .before .args in
     listing (held (a .bytes .now) (a .marks .now)) (k .status .given .0 .0) (sym (k .before .before .status-in .ensures) ∙ ap saidStatus (k .status .given .1)) (p .place .ensures)
 
--- src/lib.rt:158:1
 returns-2 : tie.Need-returns-2
 returns-2 c =
     let k = c .before in
     let a = k .before .before .before .before .args in
     refusing (Incomplete (k .status2 .given .0 .0)) (a .out .now) (unlisted (held (a .bytes .now) (a .marks .now)) (k .status2 .given .0 .0) (sym (k .before .before .status-in .ensures) ∙ ap saidStatus (k .status2 .given .1)))
 
--- src/lib.rt:158:1
 returns-3 : tie.Need-returns-3
 returns-3 c =
     let a = c .before .before .before .before .args in
@@ -78,15 +37,15 @@ pub list-in-spec : {M : Type 1} → statement M
 list-in-spec =
     tie.close
     (tie.spec
-    status-in-requires
-    enum-known-status
-    sub-place
-    part-place-start
+    (search needs)
+    (search needs)
+    (search needs)
+    (search needs)
     part-place-end
-    place-requires
-    enum-known-status-2
-    enum-told
-    same-length
+    (search needs)
+    (search needs)
+    (search needs)
+    (search needs)
     returns
     returns-2
     returns-3)

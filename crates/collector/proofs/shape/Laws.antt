@@ -1,21 +1,21 @@
 -- What the shape of the marks tells of the two tests.
-use Prim.Native.Nat.{ℕ, zero, suc, _+_, _-_, _*_, _/_, _%_, _≤_, _<_, min, max}
+use Prim.Native.Nat.{ℕ, zero, suc, _+_, _-_, _*_, _/_, _%_, _≤_, _<_, max}
 use mathlib.Core.Path.{_≡_, refl, sym, ap, _∙_, subst}
 use mathlib.Core.Logic.{_⊎_, inl, inr, ⊎-elim}
-use mathlib.Core.List.{List, [], _∷_}
+use mathlib.Core.List.{List}
 use mathlib.Core.Bool.{Bool, true, false}
 use native.Mathlib.Omega.{arith}
 use native.Mathlib.Numerals.{add-one}
 use lib.ListN.{length, getD, set}
 use lib.Seq.{paste, getD-set-same, getD-set-other}
 use lib.Dec.{ltb, eqb}
-use borrow.Author.Tests.{eq-eqb, ne-eqb, lt-ltb, le-ltb, ltb-true, ltb-false, eqb-true, eqb-false}
+use borrow.Author.Tests.{eq-eqb, ne-eqb, lt-ltb, le-ltb, ltb-false}
 use Rattle.collector.specs.declared.Collector.{Collector}
 use Rattle.collector.specs.declared.shape.Shape.{Shape}
 use Rattle.base.specs.Choice.{if_then_else_}
-use Rattle.collector.specs.Collector.{_and_, endOf, leastTo, lowest, marksFit, bytesFit, wellFormed, put, completeBy}
+use Rattle.collector.specs.Collector.{endOf, leastTo, lowest, marksFit, bytesFit, wellFormed, put, completeBy}
 use Rattle.collector.specs.Shape.{maxTo, filled, partly, free, topTo, gapTo, mostTo, freeTo, most, holes, shapeOf, fits, completeShape, ShapeFits, shapeWith}
-use Rattle.collector.proofs.Basic.{both-left, both-right, both-true, bool-cases, lt-or-le, eq-or-ne, end-small, end-large, low-le, le-low, MarksOk, Zeros, marks-fact, fact-marks, bytes-fact, fact-bytes}
+use Rattle.collector.proofs.Basic.{both-right, bool-cases, lt-or-le, eq-or-ne, end-small, end-large, low-le, le-low, MarksOk, Zeros, marks-fact, fact-marks, bytes-fact, fact-bytes}
 use Rattle.collector.proofs.Parts.{zeros-put}
 use Rattle.collector.proofs.Step.{true-not-false}
 use Rattle.collector.proofs.Complete.{lowest-le, lowest-below, lowest-at}

@@ -1,10 +1,9 @@
-use borrow.Author.Tests.{eq-eqb, ne-eqb, lt-ltb, le-ltb, not-true, not-false}
+use borrow.Author.Tests.{eq-eqb, ne-eqb}
 use native.Mathlib.Omega.{arith}
-use Prim.Native.Nat.{ℕ, suc, _≤_, _<_, _-_, _+_, _*_, max}
-use mathlib.Core.Path.{_≡_, refl, sym, ap, _∙_, subst}
-use mathlib.Core.Bool.{Bool, true, false}
-use native.Mathlib.Numerals.{add-one}
-use lib.ListN.{length, getD, set}
+use Prim.Native.Nat.{ℕ, _≤_, _<_, _-_, _+_}
+use mathlib.Core.Path.{_≡_, sym}
+use mathlib.Core.Bool.{true}
+use lib.ListN.{length, getD}
 use borrow.Author.Needs.{needs}
 use lib.Dec.{eqb}
 use borrow.Author.Count.{below-none, below-more}
@@ -12,8 +11,6 @@ use Rattle.collector.proofs.Basic.{all-of, all-not}
 use Rattle.collector.specs.Collector.{standsAt}
 use Rattle.collector.proofs.stands_at.Statement.{statement}
 use Rattle.collector.proofs.stands_at.Tie as tie
-use Rattle.collector.proofs.stands_at.Reads as reads
-use Rattle.collector.proofs.stands_at.Lts as lts
 
 abbrev Inv-loop : tie.InvT-loop
 Inv-loop bytes at part j₀ j = (j ≤ length part) × ((q : ℕ) → q < j → eqb (getD bytes (at + q) 0) (getD part q 0) ≡ true)
@@ -24,21 +21,9 @@ abbrev μ-loop : tie.MeasureT-loop
 loop-holds : tie.Need-loop-holds Inv-loop μ-loop
 loop-holds c = (omega arith, below-none _)
 
-add-if1 : tie.Need-add-if1 Inv-loop μ-loop
-add-if1 c = search needs
-
-element-copy-out-if1 : tie.Need-element-copy-out-if1 Inv-loop μ-loop
-element-copy-out-if1 c = search needs
-
-shared-slice-read-if1 : tie.Need-shared-slice-read-if1 Inv-loop μ-loop
-shared-slice-read-if1 c = search needs
-
 returns : tie.Need-returns Inv-loop μ-loop
 unfolding standsAt
 returns c = sym (all-not _ (length (c .before .before .before .before .before .args .part .now)) (c .before .before .before .before .loop .j) (omega arith) (ne-eqb _ _ (c .if1 .taken)))
-
-add-j : tie.Need-add-j Inv-loop μ-loop
-add-j c = search needs
 
 loop-less : tie.Need-loop-less Inv-loop μ-loop
 loop-less c = omega arith
@@ -59,11 +44,11 @@ stands-at-spec =
     Inv-loop
     μ-loop
     loop-holds
-    add-if1
-    element-copy-out-if1
-    shared-slice-read-if1
+    (search needs)
+    (search needs)
+    (search needs)
     returns
-    add-j
+    (search needs)
     loop-less
     loop-again
     returns-2)

@@ -1,5 +1,4 @@
-use mathlib.Core.Path.{_≡_, refl, sym, ap, _∙_}
-use native.Mathlib.Omega.{arith}
+use mathlib.Core.Path.{sym, ap, _∙_}
 use Prim.Native.Nat.{ℕ}
 use borrow.Author.Tests.{not-true, not-false}
 use Rattle.base.specs.Outcome.{accepted}
@@ -10,20 +9,11 @@ use borrow.Author.Needs.{needs}
 use Rattle.collector.proofs.status_in.Statement.{statement}
 use Rattle.collector.proofs.status_in.Tie as tie
 
-shape-of-requires : tie.Need-shape-of-requires
-shape-of-requires c κs = search needs
-
-well-formed-requires : tie.Need-well-formed-requires
-well-formed-requires c κs = search needs
-
 returns : tie.Need-returns
 returns c =
     let s = c .before .before in
     let a = s .before .args in
     sym (standing-9 (held (a .bytes .now) (a .marks .now)) (sym (c .before .well-formed .ensures) ∙ not-true _ (c .if1 .taken)))
-
-complete-requires : tie.Need-complete-requires
-complete-requires c κs = search needs
 
 length-by-requires : tie.Need-length-by-requires
 length-by-requires c κs =
@@ -64,10 +54,10 @@ pub status-in-spec : {M : Type 1} → statement M
 status-in-spec =
     tie.close
     (tie.spec
-    shape-of-requires
-    well-formed-requires
+    (search needs)
+    (λ c κs. search needs)
     returns
-    complete-requires
+    (search needs)
     length-by-requires
     returns-2
     lowest-by-requires

@@ -1,22 +1,14 @@
-use borrow.Author.Tests.{eq-eqb, ne-eqb, lt-ltb, le-ltb, not-true, not-false}
 use native.Mathlib.Omega.{arith}
-use Prim.Native.Nat.{ℕ, suc, _≤_, _<_, _-_, _+_, _*_, max}
-use mathlib.Core.Path.{_≡_, refl, sym, ap, _∙_, subst}
-use mathlib.Core.Bool.{Bool, true, false}
-use native.Mathlib.Numerals.{add-one}
-use lib.ListN.{length, getD, set}
-use borrow.Author.Needs.{needs}
+use mathlib.Core.Path.{sym}
 use Rattle.collector.proofs.shape.Laws.{filled-no, filled-yes}
 use Rattle.collector.proofs.shape.filled.Statement.{statement}
 use Rattle.collector.proofs.shape.filled.Tie as tie
-use Rattle.collector.proofs.shape.filled.Reads as reads
-use Rattle.collector.proofs.shape.filled.Lts as lts
 
 returns : tie.Need-returns
-returns c = sym (filled-yes _ _ (c .if1 .taken))
+returns c = sym (filled-yes _ (c .before .args .m) (omega arith))
 
 returns-2 : tie.Need-returns-2
-returns-2 c = sym (filled-no _ _ (c .if1 .left))
+returns-2 c = sym (filled-no _ (c .before .args .m) (omega arith))
 
 pub filled-spec : {M : Type 1} → statement M
 filled-spec = tie.close (tie.spec returns returns-2)

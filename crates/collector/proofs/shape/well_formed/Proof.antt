@@ -4,9 +4,6 @@ use borrow.Author.Needs.{needs}
 use Rattle.collector.proofs.shape.well_formed.Statement.{statement}
 use Rattle.collector.proofs.shape.well_formed.Tie as tie
 
-marks-fit-requires : tie.Need-marks-fit-requires
-marks-fit-requires c κs = search needs
-
 bytes-fit-requires : tie.Need-bytes-fit-requires
 bytes-fit-requires c κs = record { is = c .before .before .pre; fit = sym (c .before .marks-fit .ensures) ∙ c .if1 .taken }
 
@@ -23,4 +20,4 @@ returns-2 c =
     sym (formed-not (a .bytes .now) (a .marks .now) (a .shape) (k .before .pre) (sym (k .marks-fit .ensures) ∙ c .if1 .left))
 
 pub well-formed-spec : {M : Type 1} → statement M
-well-formed-spec = tie.close (tie.spec marks-fit-requires bytes-fit-requires returns returns-2)
+well-formed-spec = tie.close (tie.spec (search needs) bytes-fit-requires returns returns-2)
