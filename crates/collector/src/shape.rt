@@ -47,7 +47,7 @@ fn partly(j: u8, m: u8) -> u8
 fn free(j: u8, m: u8) -> u8
     ensures { λ r. ⌜ r ≡ free j m ⌝ }
 {
-    if m == 0 { j } else { 0 }
+    if 0 < m { 0 } else { j }
 }
 
 pub(crate) fn shape_of(marks: &[u8; Collector::PARTS]) -> Shape
@@ -90,11 +90,11 @@ fn most(bytes: &[u8; Collector::CAPACITY], at: usize, n: usize) -> u8
     acc
 }
 
-fn hole(bytes: &[u8; Collector::CAPACITY], i: usize, m: u8) -> u8
+fn hole(bytes: &[u8; Collector::CAPACITY], i: usize, mark: u8) -> u8
     requires { ⌜ i < parts ⌝ }
-    ensures { λ r. ⌜ r ≡ free (most (now (bytes .entry)) (partLength * i) partLength) m ⌝ }
+    ensures { λ r. ⌜ r ≡ free (most (now (bytes .entry)) (partLength * i) partLength) mark ⌝ }
 {
-    if m == 0 {
+    if mark == 0 {
         return most(bytes, Collector::PART * i, Collector::PART);
     }
     0
@@ -173,13 +173,8 @@ fn bytes_fit(
     if most(bytes, end, Collector::CAPACITY - end) != 0 {
         return false;
     }
-    holes(
-        bytes,
-        marks,
-        Collector::PARTS - wide(shape.free),
-        wide(shape.top),
-    )
-        == 0
+    let low = Collector::PARTS - wide(shape.free);
+    holes(bytes, marks, low, wide(shape.top)) == 0
 }
 
 pub(crate) fn well_formed(

@@ -23,8 +23,8 @@ returns c =
     let a = l .before .args in
     sym (tail-tells (a .bytes .now) (a .marks .now) (a .shape) (l .before .pre) (l .length-by .result) (l .length-by .ensures) (λ q. c .if1 .taken (c .before .most .ensures ∙ q)))
 
-sub-holes : tie.Need-sub-holes
-sub-holes c =
+sub-low : tie.Need-sub-low
+sub-low c =
     let l = c .before .before .before in
     let a = l .before .args in
     omega (arith, c .wide .ensures, free-within (a .bytes .now) (a .marks .now) (a .shape) (l .before .pre) (l .length-by .result) (l .length-by .ensures))
@@ -52,7 +52,7 @@ bytes-fit-spec =
     most-requires
     returns
     (search needs)
-    sub-holes
+    sub-low
     (search needs)
     holes-requires
     returns-2)
