@@ -1,1 +1,13 @@
+pub mod Asking
+pub mod Basic
+pub mod Complete
+pub mod Demand
+pub mod Entries
+pub mod Heard
+pub mod History
+pub mod Parts
+pub mod Reach
+pub mod Said
+pub mod Step
 pub mod Unique
+pub mod Walked

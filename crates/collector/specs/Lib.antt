@@ -1,1 +1,3 @@
 pub mod Collector
+pub mod Histories
+pub mod Shape
