@@ -15,6 +15,9 @@ use Rattle.base.specs.Verdict.{verdictOf}
 use Rattle.base.specs.declared.connection.Channel.the-variants.{Current, Numbered}
 use Rattle.channel.specs.GetChannelAccess.{command, commandBytes}
 use Rattle.channel.specs.declared.get_channel_access.ChannelAccessType.the-variants.{NonVolatile}
+use Rattle.claims.proofs.Collecting.{P11, P12-first, P12-then, P13, call, seventeen-at-63, sevens, sixteen-at-63}
+use Rattle.collector.specs.Collector.{complete, fresh, listOf, missing, standingOf, taking}
+use Rattle.collector.specs.Histories.{after}
 use Rattle.session.specs.ActivateSession.{beginOf}
 use Rattle.session.specs.GetSessionChallenge.{challengeOf}
 use Rattle.suites.specs.GetChannelCipherSuites as Suites
@@ -63,8 +66,19 @@ examples =
     ∷ (Suites.stepAfter 0 twoRecords 0 false .answer gives Nothing)
     ∷ (Suites.stepAfter 1 twoRecords 0 false .answer gives Suite (Suites.suite 3))
     ∷ (Suites.numbersOf twoRecords gives [])
+    -- P11
+    ∷ (standingOf (after (call 0 0 ∷ [])) gives accepted (complete 0))
+    ∷ (listOf (after (call 0 0 ∷ [])) gives accepted [])
+    -- P12
+    ∷ (standingOf (after (call 2 0 ∷ call 0 16 ∷ [])) gives accepted (missing 1))
+    ∷ (standingOf (after (call 1 3 ∷ call 2 0 ∷ call 0 16 ∷ [])) gives accepted (complete 19))
+    -- P13
+    ∷ (verdictOf (taking (after (call 1 3 ∷ [])) 2 (sevens 1)) gives refused 12 [])
+    -- "Sixteen bytes accepted at index 63; seventeen refused 2."
+    ∷ (verdictOf (taking fresh 63 (sevens 16)) gives accepted tt)
+    ∷ (verdictOf (taking fresh 63 (sevens 17)) gives refused 2 [])
     ∷ []
 
 pub examples-hold : map (λ (r : Row). r .what gives r .what) examples ≡ map (λ (r : Row). r .what gives r .answer) examples
 unfolding examples Suites.stepAfter Suites.upTo
-examples-hold = refl
+examples-hold = rw (P11, P12-first, P12-then, P13, sixteen-at-63, seventeen-at-63)

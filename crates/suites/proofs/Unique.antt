@@ -9,7 +9,7 @@ use prog.Memory.{Memory}
 use prog.Routine.{Routine}
 use prog.Wp.{Heap}
 use Rattle.auth.proofs.Said.{authentication-one, confidentiality-one, integrity-one}
-use Rattle.base.proofs.Unique.{Unique, UniquePart, both, writer}
+use Rattle.base.proofs.Unique.{Unique, UniquePart, both, writer, writer3}
 use Rattle.base.proofs.Walked as Walked
 use Rattle.base.proofs.verdict.Laws.{beside}
 use Rattle.suites.proofs as p
@@ -63,6 +63,12 @@ step-at-unique κs a ok z z′ w w′ q q′ = (both q q′, refl)
 
 pub suite-numbers-unique : Unique p.get_channel_cipher_suites.suite_numbers.Kinds.ps p.get_channel_cipher_suites.suite_numbers.Kinds.r p.get_channel_cipher_suites.suite_numbers.Reads.Asked p.get_channel_cipher_suites.suite_numbers.Reads.Learnt
 suite-numbers-unique κs a ok z z′ w w′ q q′ = writer q q′
+
+pub collected-suites-in-unique : Unique p.collected.collected_suites_in.Kinds.ps p.collected.collected_suites_in.Kinds.r p.collected.collected_suites_in.Reads.Asked p.collected.collected_suites_in.Reads.Learnt
+collected-suites-in-unique κs a ok z z′ w w′ q q′ = writer3 q q′
+
+pub collected-suites-unique : Unique p.collected.collected_suites.Kinds.ps p.collected.collected_suites.Kinds.r p.collected.collected_suites.Reads.Asked p.collected.collected_suites.Reads.Learnt
+collected-suites-unique κs a ok z z′ w w′ q q′ = writer q q′
 
 -- the reader that holds the list is proved by walks
 module _ {M : Type 1} (𝓤 : URA M) (H : Heap 𝓤) (A : Atoms 𝓤) (mem : Memory → SProp 𝓤) (run : Routine → Fun 𝓤) where

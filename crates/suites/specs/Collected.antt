@@ -1,0 +1,12 @@
+-- The suites of a collected list. Document 01: "asked for bytes or suites (a number byte each): 9, then 13, then 11".
+use Prim.Native.Nat.{ℕ}
+use mathlib.Core.List.{List}
+use Rattle.base.specs.Outcome.{Outcome, accepted, _>>=_}
+use Rattle.collector.specs.Collector.{listOf}
+use Rattle.collector.specs.declared.Collector.{Collector}
+use Rattle.suites.specs.GetChannelCipherSuites.{numbersOf}
+
+abbrev pub suitesOf : Collector → Outcome (List ℕ)
+suitesOf c = do
+  list ← listOf c
+  accepted (numbersOf list)
