@@ -4,7 +4,10 @@ use mathlib.Core.Path.{_≡_}
 use mathlib.Core.List.{List}
 use Rattle.base.specs.Field.{byte}
 use Rattle.base.specs.Outcome.{Outcome, accepted, refused}
+use Rattle.base.specs.Verdict.{recordOf}
 use Rattle.base.specs.Written.{lengthOf, over, written}
+use Rattle.collector.specs.Collector.{Standing, complete, missing}
+use Rattle.collector.specs.declared.Collector.{Collector}
 
 -- no slice is as long
 abbrev pub refusedBit : ℕ
@@ -14,6 +17,26 @@ refusedBit = 2 ^ 63
 abbrev pub code : Outcome ℕ → ℕ
 code (accepted n) = n
 code (refused number carried) = refusedBit + number + 256 * byte 0 carried
+
+-- a verdict alone: 0 where it is accepted
+abbrev pub plain : {A : Type 0} → Outcome A → Outcome ℕ
+plain (accepted a) = accepted 0
+plain (refused number carried) = refused number carried
+
+-- above every length of a list
+abbrev pub missingBit : ℕ
+missingBit = 2 ^ 16
+
+-- where a collector stands: its list's length, or the bit and the lowest unheard index
+abbrev pub standing : Outcome Standing → Outcome ℕ
+standing (accepted (complete n)) = accepted n
+standing (accepted (missing i)) = accepted (missingBit + i)
+standing (refused number carried) = refused number carried
+
+-- The promise of a C function by which a collector takes an answer: its number, and the collector before and after.
+pub record Takes (taken : Outcome Collector) (number : ℕ) (before after : Collector) : Type 0 where
+  pub answers : number ≡ code (plain taken)
+  pub leaves : after ≡ recordOf before taken
 
 -- The promise of every C function that writes a message: its number, and the buffer before and after.
 pub record Codes (message : Outcome (List ℕ)) (number : ℕ) (before after : List ℕ) : Type 0 where

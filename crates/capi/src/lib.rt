@@ -1,16 +1,30 @@
-// The library from C: functions on numbers and byte slices. So far the list of suites.
+// The library from C: functions on numbers and byte slices. So far the list of suites and the collector.
 ghost use mathlib.Core.Path.{_≡_};
 ghost use Rattle.base.specs.Outcome.{accepted};
 ghost use Rattle.base.specs.Refusal as spec;
 ghost use Rattle.base.specs.Written.{saidWritten};
-ghost use Rattle.capi.specs.Number.{Codes, code};
+ghost use Rattle.base.specs.Verdict.{saidVerdict};
+ghost use Rattle.capi.specs.Number.{Codes, Takes, code, plain, standing};
+ghost use Rattle.collector.specs.Collector.{listOf, saidStatus, standingOf, taking};
+ghost use Rattle.collector.specs.Shape.{held};
+ghost use Rattle.suites.specs.Collected.{suitesOf};
 ghost use Rattle.suites.specs.GetChannelCipherSuites.{numbersOf};
 use base::refusal::Refusal;
+use base::verdict::Verdict;
 use base::written::Written;
+use collector::Collector;
+use collector::Status;
+use collector::answer_in;
+use collector::list_in;
+use collector::status_in;
+use suites::collected::collected_suites_in;
 use suites::get_channel_cipher_suites::suite_numbers;
 
 // A number above every length.
 const REFUSED: u64 = 0x8000_0000_0000_0000;
+
+// Above every length of a list.
+const MISSING: u64 = 0x1_0000;
 
 fn refused(refusal: Refusal) -> u64
     ensures { λ r. ⌜ r ≡ code (spec.refusal refusal) ⌝ }
@@ -27,9 +41,73 @@ fn code(written: Written) -> u64
     }
 }
 
+fn verdict_code(verdict: Verdict) -> u64
+    ensures { λ r. ⌜ r ≡ code (plain (saidVerdict verdict)) ⌝ }
+{
+    match verdict {
+        Verdict::Accepted => 0,
+        Verdict::Refused(refusal) => refused(refusal),
+    }
+}
+
+fn status_code(status: Status) -> u64
+    ensures { λ r. ⌜ r ≡ code (standing (saidStatus status)) ⌝ }
+{
+    match status {
+        Status::Complete(length) => length as u64,
+        Status::Missing(index) => MISSING + (index as u64),
+        Status::NoForm => refused(Refusal::NoForm),
+    }
+}
+
 #[no_mangle]
 pub extern "C" fn ghj_suite_numbers(list: &[u8], out: &mut [u8]) -> u64
     ensures { λ r. ⌜ Codes (accepted (numbersOf (now (list .entry)))) r (now (out .entry)) (now (out .exit)) ⌝ }
 {
     code(suite_numbers(list, out))
+}
+
+// A collector is lent as its two arrays, which lie one behind the other in its struct.
+#[no_mangle]
+pub extern "C" fn ghj_collector_answer(
+    bytes: &mut [u8; Collector::CAPACITY],
+    marks: &mut [u8; Collector::PARTS],
+    index: u8,
+    response: &[u8],
+) -> u64
+    ensures { λ r. ⌜ Takes (taking (held (now (bytes .entry)) (now (marks .entry))) index (now (response .entry))) r (held (now (bytes .entry)) (now (marks .entry))) (held (now (bytes .exit)) (now (marks .exit))) ⌝ }
+{
+    verdict_code(answer_in(bytes, marks, index, response))
+}
+
+#[no_mangle]
+pub extern "C" fn ghj_collector_status(
+    bytes: &[u8; Collector::CAPACITY],
+    marks: &[u8; Collector::PARTS],
+) -> u64
+    ensures { λ r. ⌜ r ≡ code (standing (standingOf (held (now (bytes .entry)) (now (marks .entry))))) ⌝ }
+{
+    status_code(status_in(bytes, marks))
+}
+
+#[no_mangle]
+pub extern "C" fn ghj_collector_list(
+    bytes: &[u8; Collector::CAPACITY],
+    marks: &[u8; Collector::PARTS],
+    out: &mut [u8],
+) -> u64
+    ensures { λ r. ⌜ Codes (listOf (held (now (bytes .entry)) (now (marks .entry)))) r (now (out .entry)) (now (out .exit)) ⌝ }
+{
+    code(list_in(bytes, marks, out))
+}
+
+#[no_mangle]
+pub extern "C" fn ghj_collector_suites(
+    bytes: &[u8; Collector::CAPACITY],
+    marks: &[u8; Collector::PARTS],
+    out: &mut [u8],
+) -> u64
+    ensures { λ r. ⌜ Codes (suitesOf (held (now (bytes .entry)) (now (marks .entry)))) r (now (out .entry)) (now (out .exit)) ⌝ }
+{
+    code(collected_suites_in(bytes, marks, out))
 }
