@@ -45,6 +45,13 @@ pub enum Status {
     Missing(u8),
 }
 
+/// What is asked of a collector. The port is asked by the same questions.
+pub trait Hears {
+    fn fresh() -> Self;
+    fn hear(&mut self, answer: &Answer) -> Verdict;
+    fn status(&self) -> Status;
+}
+
 /// All that was accepted, by index, and every length that a list which explains
 /// it can have. A length that explains no more never comes back, as what was
 /// accepted stays; so the lengths need not be searched anew for each answer.
@@ -53,15 +60,15 @@ pub struct Collector {
     lengths: Vec<usize>,
 }
 
-impl Collector {
-    pub fn fresh() -> Self {
+impl Hears for Collector {
+    fn fresh() -> Self {
         Self {
             accepted: BTreeMap::new(),
             lengths: (0..=CAPACITY).collect(),
         }
     }
 
-    pub fn hear(&mut self, answer: &Answer) -> Verdict {
+    fn hear(&mut self, answer: &Answer) -> Verdict {
         if answer.index > LAST_INDEX {
             return Verdict::Refused(7);
         }
@@ -97,7 +104,7 @@ impl Collector {
     /// one was heard, with fewer than sixteen bytes or up to the place 1,024,
     /// and those before it were, so no list of another length explains it all.
     /// The assertion says so.
-    pub fn status(&self) -> Status {
+    fn status(&self) -> Status {
         let unheard = (0..=LAST_INDEX).find(|index| !self.accepted.contains_key(index));
         let complete = |&n: &usize| {
             let last = usize::from(LAST_INDEX).min(n / PART);

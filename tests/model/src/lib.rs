@@ -1,11 +1,11 @@
 //! A model of the collector, made from the demand and from nothing of the port:
 //! what does a fresh collector say of a history of answers?
 
-mod collector;
-mod history;
+pub mod collector;
+pub mod history;
 mod text;
 
-use collector::{answer_of, Answer, Collector, Status, LAST_INDEX, PART};
+use collector::{answer_of, Answer, Collector, Hears, Status, LAST_INDEX, PART};
 use history::KINDS;
 use std::collections::BTreeMap;
 use text::write;
@@ -16,28 +16,39 @@ const MOST_ANSWERS: usize = 128;
 /// Random histories for a long run.
 const MILLION: u32 = 1 << 20;
 
-/// The answer to a line, which comes without its newline.
+/// The model's answer to a line, which comes without its newline.
 pub fn answer(line: &[u8]) -> String {
-    ask(line).unwrap_or_else(|| "bad question".to_string())
+    answer_by::<Collector>(line)
 }
 
-fn ask(line: &[u8]) -> Option<String> {
+/// The answer of any collector.
+pub fn answer_by<C: Hears>(line: &[u8]) -> String {
+    ask::<C>(line).unwrap_or_else(|| "bad question".to_string())
+}
+
+/// The hash of the answers to the long list.
+pub fn million_by<C: Hears>() -> String {
+    let lines = million().into_iter();
+    text::hash_lines(lines.map(|line| answer_by::<C>(line.as_bytes())))
+}
+
+fn ask<C: Hears>(line: &[u8]) -> Option<String> {
     let (word, data) = text::read(line)?;
     let answer = match (word, &data[..]) {
-        ("collect", data) => text::told(&spelled(data)?).text,
+        ("collect", data) => text::told::<C>(&spelled(data)?).text,
         ("honest", &[high, low, kind, seed]) => {
             let length = usize::from(u16::from_be_bytes([high, low]));
             if length > collector::CAPACITY || kind >= KINDS {
                 return None;
             }
-            text::short(&history::honest(length, kind, seed))
+            text::short::<C>(&history::honest(length, kind, seed))
         }
-        ("random", &[a, b, c, d]) => text::short(&history::random(&[a, b, c, d])),
-        ("random_all", &[a, b, c]) => {
-            text::hash_lines((0..=u8::MAX).map(|d| text::short(&history::random(&[a, b, c, d]))))
-        }
+        ("random", &[a, b, c, d]) => text::short::<C>(&history::random(&[a, b, c, d])),
+        ("random_all", &[a, b, c]) => text::hash_lines(
+            (0..=u8::MAX).map(|d| text::short::<C>(&history::random(&[a, b, c, d]))),
+        ),
         ("pairs_all", &[index, length]) if index <= LAST_INDEX && length <= 16 => {
-            pairs_all(index, length)
+            pairs_all::<C>(index, length)
         }
         _ => return None,
     };
@@ -60,9 +71,11 @@ fn spelled(mut data: &[u8]) -> Option<Vec<Answer>> {
 }
 
 /// This answer, then any other one, legal or next to it.
-fn pairs_all(index: u8, length: u8) -> String {
+fn pairs_all<C: Hears>(index: u8, length: u8) -> String {
     let others = (0..=64).flat_map(|index| (0..=17).map(move |length| (index, length)));
-    text::hash_lines(others.map(|other| text::told(&history::pair((index, length), other)).text))
+    text::hash_lines(
+        others.map(|other| text::told::<C>(&history::pair((index, length), other)).text),
+    )
 }
 
 /// The list of questions, in order.
@@ -109,8 +122,7 @@ pub fn million() -> Vec<String> {
 /// The hash of the answers to the long list, and what became of the answers of
 /// its random histories: where an outcome is rare, they are no good test of it.
 pub fn digest() -> String {
-    let lines = million().into_iter().map(|line| answer(line.as_bytes()));
-    let mut digest = format!("{} hash\n", text::hash_lines(lines));
+    let mut digest = format!("{} hash\n", million_by::<Collector>());
 
     let mut tally: BTreeMap<String, u32> = BTreeMap::new();
     for seed in 0..MILLION {

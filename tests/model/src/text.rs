@@ -1,6 +1,6 @@
 //! How questions are read, and answers written and hashed.
 
-use crate::collector::{Answer, Collector, Status, Verdict};
+use crate::collector::{Answer, Hears, Status, Verdict};
 
 /// FNV-1a of 32 bits: its offset basis.
 pub const OFFSET: u32 = 2_166_136_261;
@@ -42,8 +42,8 @@ pub struct Told {
     pub status: String,
 }
 
-pub fn told(history: &[Answer]) -> Told {
-    let mut collector = Collector::fresh();
+pub fn told<C: Hears>(history: &[Answer]) -> Told {
+    let mut collector = C::fresh();
     let mut text = String::new();
     for answer in history {
         match collector.hear(answer) {
@@ -69,8 +69,8 @@ fn status(status: &Status) -> String {
 }
 
 /// The hash of the text, and the last status.
-pub fn short(history: &[Answer]) -> String {
-    let told = told(history);
+pub fn short<C: Hears>(history: &[Answer]) -> String {
+    let told = told::<C>(history);
     format!("{} {}", hash(told.text.as_bytes(), OFFSET), told.status)
 }
 

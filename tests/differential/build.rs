@@ -1,0 +1,18 @@
+//! Links the archive that `tests/differential/check` names.
+
+use std::env;
+use std::path::PathBuf;
+
+fn main() {
+    println!("cargo::rerun-if-env-changed=GHJALVESTRU_ARCHIVE");
+    let Some(archive) = env::var_os("GHJALVESTRU_ARCHIVE") else {
+        println!("cargo::error=GHJALVESTRU_ARCHIVE does not name the archive; tests/differential/check does that");
+        return;
+    };
+    let archive = PathBuf::from(archive);
+    println!("cargo::rerun-if-changed={}", archive.display());
+    if let Some(folder) = archive.parent() {
+        println!("cargo::rustc-link-search=native={}", folder.display());
+    }
+    println!("cargo::rustc-link-lib=static=capi");
+}

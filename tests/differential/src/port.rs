@@ -1,0 +1,90 @@
+//! The port's collector, through C.
+
+use collector_model::collector::{Answer, Hears, Status, Verdict};
+
+const CAPACITY: usize = 1024;
+const PARTS: usize = 64;
+const REFUSED: u64 = 1 << 63;
+const MISSING: u64 = 1 << 16;
+
+extern "C" {
+    fn ghj_collector_answer(
+        bytes: *mut [u8; CAPACITY],
+        marks: *mut [u8; PARTS],
+        index: u8,
+        response: *const u8,
+        length: usize,
+    ) -> u64;
+    fn ghj_collector_status(bytes: *const [u8; CAPACITY], marks: *const [u8; PARTS]) -> u64;
+    fn ghj_collector_list(
+        bytes: *const [u8; CAPACITY],
+        marks: *const [u8; PARTS],
+        out: *mut u8,
+        room: usize,
+    ) -> u64;
+}
+
+#[derive(Clone, Copy, PartialEq)]
+pub struct Port {
+    bytes: [u8; CAPACITY],
+    marks: [u8; PARTS],
+}
+
+impl Port {
+    fn list(&self, out: &mut [u8]) -> u64 {
+        unsafe { ghj_collector_list(&self.bytes, &self.marks, out.as_mut_ptr(), out.len()) }
+    }
+
+    /// The list, its buffer too short by one first: that changes nothing.
+    fn whole_list(&self, length: usize) -> Vec<u8> {
+        let mut out = vec![0xA5; length + 3];
+        if length > 0 {
+            assert_eq!(self.list(&mut out[..length - 1]), REFUSED + 11);
+            assert!(out.iter().all(|&byte| byte == 0xA5));
+        }
+        assert_eq!(self.list(&mut out), length as u64);
+        assert_eq!(out[length..], [0xA5; 3]);
+        out.truncate(length);
+        out
+    }
+}
+
+impl Hears for Port {
+    fn fresh() -> Self {
+        Self {
+            bytes: [0; CAPACITY],
+            marks: [0; PARTS],
+        }
+    }
+
+    fn hear(&mut self, answer: &Answer) -> Verdict {
+        let before = *self;
+        let number = unsafe {
+            ghj_collector_answer(
+                &mut self.bytes,
+                &mut self.marks,
+                answer.index,
+                answer.bytes.as_ptr(),
+                answer.bytes.len(),
+            )
+        };
+        if number == 0 {
+            return Verdict::Accepted;
+        }
+        assert!(before == *self, "a refusal changed the collector");
+        assert!(REFUSED < number && number < REFUSED + 256);
+        Verdict::Refused((number - REFUSED) as u8)
+    }
+
+    fn status(&self) -> Status {
+        let number = unsafe { ghj_collector_status(&self.bytes, &self.marks) };
+        if number < MISSING {
+            return Status::Complete(self.whole_list(number as usize));
+        }
+        let index = (number - MISSING) as u8;
+        let mut out = [0xA5; 4];
+        assert_eq!(self.list(&mut out), REFUSED + 13 + 256 * u64::from(index));
+        assert_eq!(out, [0xA5; 4]);
+        Status::Missing(index)
+    }
+}
