@@ -1,3 +1,4 @@
+-- Honest answers; asking the lowest unheard index.
 use Prim.Native.Nat.{ℕ, zero, suc, _+_, _*_, _≤_, _<_}
 use mathlib.Core.Path.{_≡_, refl, subst}
 use mathlib.Core.Logic.{⊎-elim}
@@ -24,7 +25,7 @@ take-bytes (suc n) (x ∷ l) b (suc k) = take-bytes n l (λ j. b (suc j)) k
 pub drop-bytes : (n : ℕ) (l : List ℕ) → IsBytes l → IsBytes (drop n l)
 drop-bytes n l b k = omega (arith, getD-drop n l k 0, b (n + k))
 
--- (b) honest answers are accepted
+-- honest answers are accepted
 
 pub honest-calls : (l : List ℕ) → IsBytes l → (h : List Call) → Honest l h → Calls h
 honest-calls l b [] e = tt
@@ -44,7 +45,7 @@ module _ (l : List ℕ) (b : IsBytes l) (s : length l ≤ 1024) where
       let m : History h = history h (honest-calls l b h e) in
       stepped (after h) i (answerOf l i) (m .typed) (m .wf) (take-bytes 16 (drop (16 * i) l) (drop-bytes (16 * i) l b)) .honest l (honest-tells h e) il refl
 
-  -- ---- (e) asking the lowest
+  -- asking the lowest
 
   pub record Asked (k : ℕ) : Type 0 where
     pub honest : Honest l (asking l k)
@@ -74,15 +75,9 @@ module _ (l : List ℕ) (b : IsBytes l) (s : length l ≤ 1024) where
             (eq-or-ne (getD (recordOf (after (asking l k)) (taking (after (asking l k)) i (answerOf l i)) .marks) j 0) 0);
       }
 
-  -- before lastOf + 1 answers it is not isComplete, and then it is
+  -- before lastOf + 1 answers it is not complete
   pub not-yet : (k : ℕ) → k ≤ lastOf (length l) → isComplete (after (asking l k)) ≡ false
   not-yet k h =
       let p : Asked k = asked k (omega arith) in
       ⊎-elim (λ (e : isComplete (after (asking l k)) ≡ true). absurd (complete-heard (after (asking l k)) l (honest-tells (asking l k) (p .honest)) e k h (p .free k (omega arith))))
       (λ (e : isComplete (after (asking l k)) ≡ false). e) (bool-cases (isComplete (after (asking l k))))
-
-  pub done : isComplete (after (asking l (suc (lastOf (length l))))) ≡ true
-  done =
-      let p : Asked (suc (lastOf (length l))) = asked (suc (lastOf (length l))) (omega arith) in
-      heard-complete (after (asking l (suc (lastOf (length l))))) l (honest-tells (asking l (suc (lastOf (length l)))) (p .honest))
-      (λ i h. p .marked i (omega arith))

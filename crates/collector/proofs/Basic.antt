@@ -1,3 +1,4 @@
+-- The tests of a collector as facts, and what a list tells of one. Omega reads 16, 63, 64 and 1024 as numerals only, so they stand so in these proofs.
 use Prim.Native.Nat.{ℕ, zero, suc, _+_, _-_, _*_, _/_, _%_, _≤_, _<_, min}
 use mathlib.Core.Path.{_≡_, refl, sym, _∙_}
 use mathlib.Core.Logic.{_⊎_, inl, inr, ⊎-elim}

@@ -1,3 +1,4 @@
+-- The lowest unheard index, and completeness.
 use Prim.Native.Nat.{ℕ, zero, suc, _-_, _*_, _/_, _≤_, _<_, min}
 use mathlib.Core.Path.{_≡_, refl, _∙_}
 use mathlib.Core.Logic.{_⊎_, inl, inr, ⊎-elim}
@@ -14,8 +15,6 @@ use Rattle.collector.specs.Histories.{Held, lastOf}
 use Rattle.collector.proofs.Basic.{both-left, both-right, both-true, lt-or-le, eq-or-ne, le-low, end-large, low-under}
 use Rattle.collector.proofs.Step.{TellsOf}
 use Rattle.collector.proofs.Heard.{Marked}
-
--- (d) the lowest unheard index
 
 pub lowest-le : (ms : List ℕ) (n : ℕ) → lowest ms n ≤ n
 unfolding lowest
@@ -61,7 +60,7 @@ lowest-is ms n k kn below at =
     (eq-or-ne (lowest ms n) k))
     (lt-or-le (lowest ms n) k)
 
--- (c) isComplete
+-- complete
 
 either-cases : (a b : Bool) → (a or b) ≡ true → (a ≡ true) ⊎ (b ≡ true)
 either-cases true b e = inl refl
@@ -72,10 +71,7 @@ either-right true b e = refl
 either-right false b e = e
 
 module _ (c : Collector) (l : List ℕ) (t : TellsOf l c) where
-  u : ℕ
-  u = lowest (c .marks) 64
-
-  -- isComplete: the lowest unheard index is past the last that the list needs
+  -- complete: the lowest unheard index is past the last that the list needs
   past : isComplete c ≡ true → lastOf (length l) < lowest (c .marks) 64
   unfolding isComplete
   past e =

@@ -1,3 +1,4 @@
+-- What a history leaves: the lists that the collector allows are those that explain what was accepted.
 use Prim.Native.Nat.{ℕ, zero, suc, _≤_, _<_}
 use mathlib.Core.Path.{_≡_, refl, sym, ap, subst}
 use mathlib.Core.List.{List, [], _∷_}
@@ -16,7 +17,7 @@ use Rattle.collector.proofs.Parts.{answer-length, zeros-put, tells-put,
 use Rattle.collector.proofs.Step.{TellsOf, true-not-false, wf-marks, wf-zeros, wf-of, fresh-typed, fresh-tells, fresh-wf, same-answer, answer-same, put-typed, StepView, view}
 use Rattle.collector.proofs.Step.StepView.{bad-index, too-long, repeats, differs, joins, clashes}
 
--- what a taking on a well-formed collector gives
+-- what an answer to a well-formed collector leaves
 
 pub record Stepped (c : Collector) (i : ℕ) (d : List ℕ) (r : Outcome Collector) : Type 0 where
   pub typed : Held (recordOf c r)
@@ -104,7 +105,7 @@ history (a ∷ h) u =
     go-from r s from l n true e x = s .adds l (from l n (x .1)) (x .0)
     go-from r s from l n false e x = subst (λ (c : Collector). TellsOf l c) (sym (s .kept e)) (from l n x)
 
--- (a) an answer of legal index and length is refused exactly where no list explains it with those accepted
+-- an answer is accepted exactly where a list explains it with those accepted
 
 pub explained : (h : List Call) → Calls h → Explained (acceptedOf h)
 explained h u =
@@ -141,10 +142,3 @@ module _ (h : List Call) (u : Calls h) (a : Call) (v : IsBytes (a .content)) whe
   explained-accepted il x =
       let m : History h = history h u in
       stepped (after h) (a .index) (a .content) (m .typed) (m .wf) v .honest (x .list) (m .from (x .list) (x .size) (x .explains .1)) il (x .explains .0)
-
-  -- a refusal changes nothing
-  pub refusal-keeps : isAccepted (taking (after h) (a .index) (a .content)) ≡ false → after (a ∷ h) ≡ after h
-  unfolding after
-  refusal-keeps e =
-      let m : History h = history h u in
-      stepped (after h) (a .index) (a .content) (m .typed) (m .wf) v .kept e

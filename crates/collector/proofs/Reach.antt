@@ -1,3 +1,4 @@
+-- What is well-formed is reachable: its parts are taken out one by one, and answered again.
 use Prim.Native.Nat.{ℕ, zero, suc, _+_, _-_, _*_, _/_, _%_, _≤_, _<_}
 use mathlib.Core.Path.{_≡_, refl, sym, ap, _∙_, subst}
 use mathlib.Core.Logic.{⊎-elim}
@@ -192,7 +193,7 @@ reach (suc n) h c t w f =
     (λ j nj jl. ⊎-elim (λ (e : j ≡ n). rw e (unmarked c n t (omega arith))) (λ (e : j ≡ n → ⊥). others c n t (omega arith) j e ∙ f j (omega arith) jl) (eq-or-ne j n))))
     (eq-or-ne (getD (c .marks) n 0) 0)
 
--- (f) well-formed exactly when reachable
+-- well-formed exactly when reachable
 
 pub wf-reachable : (c : Collector) → Held c → wellFormed c ≡ true → Reachable c
 wf-reachable c t w = reach 64 (omega arith) c t w (λ j a b. absurd (omega arith))

@@ -13,7 +13,7 @@ returns : tie.Need-returns
 returns c =
     let s = c .before .before in
     let a = s .before .before .before .before .before .before .args in
-    taking-9 (held (a .bytes .now) (a .marks .now)) (a .index) (a .response .now) (sym (c .before .well-formed .ensures) ∙ not-true _ (c .if1 .taken))
+    rw (taking-9 (held (a .bytes .now) (a .marks .now)) (a .index) (a .response .now) (sym (c .before .well-formed .ensures) ∙ not-true _ (c .if1 .taken)))
 
 returns-2 : tie.Need-returns-2
 returns-2 c =
@@ -22,7 +22,7 @@ returns-2 c =
     let s = f .before in
     let a = s .before .before .before .before .before .before .args in
     let w = sym (f .well-formed .ensures) ∙ not-false _ (k .if1 .left) in
-    says-7 (a .bytes .now) (a .marks .now) (s .shape-of .result) (s .shape-of .ensures) w (a .index) (a .response .now) (omega arith)
+    rw (says-7 (a .bytes .now) (a .marks .now) (s .shape-of .result) (s .shape-of .ensures) w (a .index) (a .response .now) (omega arith))
 
 returns-3 : tie.Need-returns-3
 returns-3 c =
@@ -31,7 +31,7 @@ returns-3 c =
     let s = f .before in
     let a = s .before .before .before .before .before .before .args in
     let w = sym (f .well-formed .ensures) ∙ not-false _ (k .if1 .left) in
-    says-2 (a .bytes .now) (a .marks .now) (s .shape-of .result) (s .shape-of .ensures) w (a .index) (a .response .now) (omega arith) (omega arith)
+    rw (says-2 (a .bytes .now) (a .marks .now) (s .shape-of .result) (s .shape-of .ensures) w (a .index) (a .response .now) (omega arith) (omega arith))
 
 returns-4 : tie.Need-returns-4
 returns-4 c =
@@ -40,8 +40,9 @@ returns-4 c =
     let s = f .before in
     let a = s .before .before .before .before .before .before .args in
     let w = sym (f .well-formed .ensures) ∙ not-false _ (k .if1 .left) in
-    says-store (a .bytes .now) (a .marks .now) (s .shape-of .result) (s .shape-of .ensures) w (a .index) (a .response .now) (omega (arith, c .before .before .before .before .before .before .if2 .left)) (omega (arith, c .before .before .before .before .before .if3 .left)) (getD (a .marks .now) (a .index) 0) (length (a .response .now) + 1) refl refl (omega arith) (s .before .before .before .all-bytes .ensures) (s .before .all-marks .ensures)
-    (ap fits (sym (c .before .before .shape-with .ensures)) ∙ sym (c .before .marks-fit .ensures) ∙ c .if5 .taken)
+    let y = says-store (a .bytes .now) (a .marks .now) (s .shape-of .result) (s .shape-of .ensures) w (a .index) (a .response .now) (omega (arith, c .before .before .before .before .before .before .if2 .left)) (omega (arith, c .before .before .before .before .before .if3 .left)) (getD (a .marks .now) (a .index) 0) (length (a .response .now) + 1) refl refl (omega arith) (s .before .before .before .all-bytes .ensures) (s .before .all-marks .ensures)
+    (ap fits (sym (c .before .before .shape-with .ensures)) ∙ sym (c .before .marks-fit .ensures) ∙ c .if5 .taken) in
+    rw (y .0) (refl, y .1)
 
 returns-5 : tie.Need-returns-5
 returns-5 c =
@@ -50,8 +51,8 @@ returns-5 c =
     let s = f .before in
     let a = s .before .before .before .before .before .before .args in
     let w = sym (f .well-formed .ensures) ∙ not-false _ (k .if1 .left) in
-    says-clash (a .bytes .now) (a .marks .now) (s .shape-of .result) (s .shape-of .ensures) w (a .index) (a .response .now) (omega (arith, c .before .before .before .before .before .before .if2 .left)) (omega (arith, c .before .before .before .before .before .if3 .left)) (getD (a .marks .now) (a .index) 0) (length (a .response .now) + 1) refl refl (omega arith) (s .before .before .before .all-bytes .ensures) (s .before .all-marks .ensures)
-    (ap fits (sym (c .before .before .shape-with .ensures)) ∙ sym (c .before .marks-fit .ensures) ∙ c .if5 .left)
+    rw (says-clash (a .bytes .now) (a .marks .now) (s .shape-of .result) (s .shape-of .ensures) w (a .index) (a .response .now) (omega (arith, c .before .before .before .before .before .before .if2 .left)) (omega (arith, c .before .before .before .before .before .if3 .left)) (getD (a .marks .now) (a .index) 0) (length (a .response .now) + 1) refl refl (omega arith) (s .before .before .before .all-bytes .ensures) (s .before .all-marks .ensures)
+    (ap fits (sym (c .before .before .shape-with .ensures)) ∙ sym (c .before .marks-fit .ensures) ∙ c .if5 .left))
 
 returns-6 : tie.Need-returns-6
 returns-6 c =
@@ -60,7 +61,7 @@ returns-6 c =
     let s = f .before in
     let a = s .before .before .before .before .before .before .args in
     let w = sym (f .well-formed .ensures) ∙ not-false _ (k .if1 .left) in
-    says-other (a .bytes .now) (a .marks .now) (s .shape-of .result) (s .shape-of .ensures) w (a .index) (a .response .now) (omega (arith, c .before .before .before .before .if2 .left)) (omega (arith, c .before .before .before .if3 .left)) (getD (a .marks .now) (a .index) 0) (length (a .response .now) + 1) refl refl (c .before .if4 .left) (c .if6 .taken)
+    rw (says-other (a .bytes .now) (a .marks .now) (s .shape-of .result) (s .shape-of .ensures) w (a .index) (a .response .now) (omega (arith, c .before .before .before .before .if2 .left)) (omega (arith, c .before .before .before .if3 .left)) (getD (a .marks .now) (a .index) 0) (length (a .response .now) + 1) refl refl (c .before .if4 .left) (c .if6 .taken))
 
 stands-at-requires : tie.Need-stands-at-requires
 stands-at-requires c κs = omega (arith, c .start .ensures)
@@ -72,8 +73,8 @@ returns-7 c =
     let s = f .before in
     let a = s .before .before .before .before .before .before .args in
     let w = sym (f .well-formed .ensures) ∙ not-false _ (k .if1 .left) in
-    says-keep (a .bytes .now) (a .marks .now) (s .shape-of .result) (s .shape-of .ensures) w (a .index) (a .response .now) (omega (arith, c .before .before .before .before .before .before .before .if2 .left)) (omega (arith, c .before .before .before .before .before .before .if3 .left)) (getD (a .marks .now) (a .index) 0) (length (a .response .now) + 1) refl refl (c .before .before .before .before .if4 .left) (c .before .before .before .if6 .left)
-    (c .before .before .start .result) (c .before .before .start .ensures) (sym (c .before .stands-at .ensures) ∙ c .if7 .taken)
+    rw (says-keep (a .bytes .now) (a .marks .now) (s .shape-of .result) (s .shape-of .ensures) w (a .index) (a .response .now) (omega (arith, c .before .before .before .before .before .before .before .if2 .left)) (omega (arith, c .before .before .before .before .before .before .if3 .left)) (getD (a .marks .now) (a .index) 0) (length (a .response .now) + 1) refl refl (c .before .before .before .before .if4 .left) (c .before .before .before .if6 .left)
+    (c .before .before .start .result) (c .before .before .start .ensures) (sym (c .before .stands-at .ensures) ∙ c .if7 .taken))
 
 returns-8 : tie.Need-returns-8
 returns-8 c =
@@ -82,8 +83,8 @@ returns-8 c =
     let s = f .before in
     let a = s .before .before .before .before .before .before .args in
     let w = sym (f .well-formed .ensures) ∙ not-false _ (k .if1 .left) in
-    says-differs (a .bytes .now) (a .marks .now) (s .shape-of .result) (s .shape-of .ensures) w (a .index) (a .response .now) (omega (arith, c .before .before .before .before .before .before .before .if2 .left)) (omega (arith, c .before .before .before .before .before .before .if3 .left)) (getD (a .marks .now) (a .index) 0) (length (a .response .now) + 1) refl refl (c .before .before .before .before .if4 .left) (c .before .before .before .if6 .left)
-    (c .before .before .start .result) (c .before .before .start .ensures) (sym (c .before .stands-at .ensures) ∙ c .if7 .left)
+    rw (says-differs (a .bytes .now) (a .marks .now) (s .shape-of .result) (s .shape-of .ensures) w (a .index) (a .response .now) (omega (arith, c .before .before .before .before .before .before .before .if2 .left)) (omega (arith, c .before .before .before .before .before .before .if3 .left)) (getD (a .marks .now) (a .index) 0) (length (a .response .now) + 1) refl refl (c .before .before .before .before .if4 .left) (c .before .before .before .if6 .left)
+    (c .before .before .start .result) (c .before .before .start .ensures) (sym (c .before .stands-at .ensures) ∙ c .if7 .left))
 
 pub judge-spec : {M : Type 1} → statement M
 judge-spec =

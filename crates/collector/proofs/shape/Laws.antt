@@ -135,7 +135,7 @@ module _ (ms : List ℕ) where
       ⊎-elim (λ (z : getD ms i 0 ≡ 0). omega (arith, free-yes (64 - i) (getD ms i 0) z, h i l z))
       (λ (nz : getD ms i 0 ≡ 0 → ⊥). omega (arith, free-no (64 - i) (getD ms i 0) nz)) (eq-or-ne (getD ms i 0) 0))
 
-  -- ---- the marks fit a list exactly if none is above 17 and no part below the top is partly filled
+  -- the marks fit a list exactly if none is above 17 and no part below the top is partly filled
 
   pub record Fit : Type 0 where
     pub small : mostTo ms 64 ≤ 17

@@ -1,4 +1,4 @@
-use mathlib.Core.Path.{sym, _∙_}
+use mathlib.Core.Path.{sym}
 use native.Mathlib.Omega.{arith}
 use Rattle.collector.proofs.shape.Laws.{at-within, tail-tells, free-within, top-within, holes-tell}
 use borrow.Author.Needs.{needs}
@@ -21,7 +21,7 @@ returns : tie.Need-returns
 returns c =
     let l = c .before .before in
     let a = l .before .args in
-    sym (tail-tells (a .bytes .now) (a .marks .now) (a .shape) (l .before .pre) (l .length-by .result) (l .length-by .ensures) (λ q. c .if1 .taken (c .before .most .ensures ∙ q)))
+    sym (tail-tells (a .bytes .now) (a .marks .now) (a .shape) (l .before .pre) (l .length-by .result) (l .length-by .ensures) (λ q. c .if1 .taken (rw (c .before .most .ensures) q)))
 
 sub-low : tie.Need-sub-low
 sub-low c =
@@ -41,7 +41,7 @@ returns-2 c =
     let a = l .before .args in
     rw (c .holes .ensures)
     (holes-tell (a .bytes .now) (a .marks .now) (a .shape) (l .before .pre) (l .length-by .result) (l .length-by .ensures)
-    (sym (c .before .before .before .before .most .ensures) ∙ c .before .before .before .if1 .left) _ _ (c .before .before .wide .ensures) (c .before .wide2 .ensures))
+    (rw (← c .before .before .before .before .most .ensures) (c .before .before .before .if1 .left)) _ _ (c .before .before .wide .ensures) (c .before .wide2 .ensures))
 
 pub bytes-fit-spec : {M : Type 1} → statement M
 bytes-fit-spec =
