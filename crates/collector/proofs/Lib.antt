@@ -10,4 +10,3 @@ pub mod Reach
 pub mod Said
 pub mod Step
 pub mod Unique
-pub mod Walked

@@ -4,7 +4,7 @@ use Rattle.base.proofs.Unique.{Unique, both, writer, writer3}
 use Rattle.base.proofs.verdict.Laws.{beside}
 use Rattle.collector.proofs as p
 use Rattle.collector.proofs.Said.{status-one}
-use Rattle.collector.proofs.Walked.{UniqueWalk, facts}
+use Rattle.base.proofs.Walked.{UniqueWalk, facts}
 
 pub answer-in-unique : Unique p.answer_in.Kinds.ps p.answer_in.Kinds.r p.answer_in.Reads.Asked p.answer_in.Reads.Learnt
 answer-in-unique κs a ok z z′ w w′ q q′ = (beside (λ verdict left. verdict) q q′, beside (λ verdict left. (left .bytes, (left .marks, (tt, (tt, tt))))) q q′)
