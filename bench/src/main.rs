@@ -16,6 +16,12 @@ extern "C" {
         response: *const u8,
         length: usize,
     ) -> u64;
+    fn ghj_collector_take(
+        collector: *mut Plain,
+        index: u8,
+        response: *const u8,
+        length: usize,
+    ) -> u64;
     fn ghj_collector_status(bytes: *const [u8; CAPACITY], marks: *const [u8; PARTS]) -> u64;
     fn ghj_suite_numbers(list: *const u8, length: usize, out: *mut u8, room: usize) -> u64;
 }
@@ -46,6 +52,11 @@ fn crate_numbers_called(list: &[u8], out: &mut [u8]) -> usize {
 
 fn port_answer(c: &mut Plain, index: u8, part: &[u8]) -> u64 {
     unsafe { ghj_collector_answer(&mut c.bytes, &mut c.marks, index, part.as_ptr(), part.len()) }
+}
+
+/// The collector lent whole: by the step by value.
+fn port_take(c: &mut Plain, index: u8, part: &[u8]) -> u64 {
+    unsafe { ghj_collector_take(c, index, part.as_ptr(), part.len()) }
 }
 
 /// A list of 1,024 bytes, heard whole in order from a fresh collector: 64 answers and the fresh state.
@@ -92,27 +103,34 @@ fn collector_rows() {
     let plain = heard(&list, |c, i, part| u64::from(c.answer(i, part)));
     assert!(port == plain);
     heading("port", &["plain Rust", "copy"]);
+    assert!(port == heard(&list, port_take));
+    let ways: [(&str, fn(&mut Plain, u8, &[u8]) -> u64); 2] = [
+        ("a new answer, arrays lent", port_answer),
+        ("a new answer, collector lent", port_take),
+    ];
     let mut place = Plain::FRESH;
-    compare(
-        "a new answer, a list in order",
-        64,
-        &mut [
-            &mut || {
-                black_box(heard(black_box(&list), port_answer));
-            },
-            &mut || {
-                black_box(heard(black_box(&list), |c, i, part| {
-                    u64::from(c.answer(i, part))
-                }));
-            },
-            &mut || {
-                for _ in 0..64 {
-                    place = *black_box(&port);
-                    black_box(&place);
-                }
-            },
-        ],
-    );
+    for (name, way) in ways {
+        compare(
+            name,
+            64,
+            &mut [
+                &mut || {
+                    black_box(heard(black_box(&list), way));
+                },
+                &mut || {
+                    black_box(heard(black_box(&list), |c, i, part| {
+                        u64::from(c.answer(i, part))
+                    }));
+                },
+                &mut || {
+                    for _ in 0..64 {
+                        place = *black_box(&port);
+                        black_box(&place);
+                    }
+                },
+            ],
+        );
+    }
     let (mut one, mut two) = (port, plain);
     let part = &list[16 * 5..16 * 6];
     compare(

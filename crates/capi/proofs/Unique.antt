@@ -3,6 +3,7 @@ use mathlib.Core.List.{List}
 use mathlib.Core.Path.{_≡_, refl, ap}
 use Prim.Native.Nat.{ℕ}
 use Rattle.base.proofs.Unique.{Unique, both}
+use Rattle.base.proofs.Walked.{UniqueWalk, facts}
 use Rattle.base.specs.Outcome.{Outcome}
 use Rattle.capi.specs.Number.{Codes, Takes}
 use Rattle.collector.specs.Shape.{held}
@@ -39,3 +40,6 @@ ghj-collector-list-unique κs a ok z z′ w w′ q q′ = coder3 q q′
 
 pub ghj-collector-suites-unique : Unique p.ghj_collector_suites.Kinds.ps p.ghj_collector_suites.Kinds.r p.ghj_collector_suites.Reads.Asked p.ghj_collector_suites.Reads.Learnt
 ghj-collector-suites-unique κs a ok z z′ w w′ q q′ = coder3 q q′
+
+pub ghj-collector-take-unique : UniqueWalk p.ghj_collector_take.ended (λ M 𝓤 H A mem run. p.ghj_collector_take.clauses 𝓤 H A mem run)
+ghj-collector-take-unique M 𝓤 H A mem run κs a g z z′ w w′ = facts 𝓤 (λ q q′. (both (q .answers) (q′ .answers), ap (λ x. (x, (tt, (tt, tt)))) (both (q .leaves) (q′ .leaves))))
