@@ -70,14 +70,14 @@ Right row = row .what ≡ row .answer
 abbrev p11 : Row
 p11 = standingOf (after (at 0 [] ∷ [])) gives accepted (complete 0)
 
-p11-right : Right p11
+p11-right : standingOf (after (at 0 [] ∷ [])) ≡ accepted (complete 0)
 unfolding after taking holds standsAt allBelow leastTo marksFit bytesFit lowest isComplete
 p11-right = refl
 
 abbrev p11-list : Row
 p11-list = listOf (after (at 0 [] ∷ [])) gives accepted []
 
-p11-list-right : Right p11-list
+p11-list-right : listOf (after (at 0 [] ∷ [])) ≡ accepted []
 unfolding after taking holds standsAt allBelow leastTo marksFit bytesFit lowest isComplete
 p11-list-right = refl
 
@@ -85,14 +85,14 @@ p11-list-right = refl
 abbrev p12 : Row
 p12 = standingOf (after (at 2 [] ∷ at 0 (replicate 16 7) ∷ [])) gives accepted (missing 1)
 
-p12-right : Right p12
+p12-right : standingOf (after (at 2 [] ∷ at 0 (replicate 16 7) ∷ [])) ≡ accepted (missing 1)
 unfolding after taking holds standsAt allBelow leastTo marksFit bytesFit lowest isComplete
 p12-right = refl
 
 abbrev p12-complete : Row
 p12-complete = standingOf (after (at 1 (replicate 3 7) ∷ at 2 [] ∷ at 0 (replicate 16 7) ∷ [])) gives accepted (complete 19)
 
-p12-complete-right : Right p12-complete
+p12-complete-right : standingOf (after (at 1 (replicate 3 7) ∷ at 2 [] ∷ at 0 (replicate 16 7) ∷ [])) ≡ accepted (complete 19)
 unfolding after taking holds standsAt allBelow leastTo marksFit bytesFit lowest isComplete
 p12-complete-right = refl
 
@@ -100,7 +100,7 @@ p12-complete-right = refl
 abbrev p13 : Row
 p13 = verdictOf (taking (after (at 1 (replicate 3 7) ∷ [])) 2 (7 ∷ [])) gives refused 12 []
 
-p13-right : Right p13
+p13-right : verdictOf (taking (after (at 1 (replicate 3 7) ∷ [])) 2 (7 ∷ [])) ≡ refused 12 []
 unfolding after taking holds standsAt allBelow leastTo marksFit bytesFit lowest isComplete
 p13-right = refl
 
@@ -108,14 +108,14 @@ p13-right = refl
 abbrev sixteen : Row
 sixteen = verdictOf (taking fresh 63 (replicate 16 7)) gives accepted tt
 
-sixteen-right : Right sixteen
+sixteen-right : verdictOf (taking fresh 63 (replicate 16 7)) ≡ accepted tt
 unfolding after taking holds standsAt allBelow leastTo marksFit bytesFit lowest isComplete
 sixteen-right = refl
 
 abbrev seventeen : Row
 seventeen = verdictOf (taking fresh 63 (replicate 17 7)) gives refused 2 []
 
-seventeen-right : Right seventeen
+seventeen-right : verdictOf (taking fresh 63 (replicate 17 7)) ≡ refused 2 []
 unfolding after taking holds standsAt allBelow leastTo marksFit bytesFit lowest isComplete
 seventeen-right = refl
 
