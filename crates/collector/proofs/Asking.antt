@@ -14,7 +14,7 @@ use Rattle.collector.proofs.Basic.{lt-or-le, eq-or-ne, bool-cases}
 use Rattle.collector.proofs.Step.{TellsOf, replicate-zero, fresh-tells}
 use Rattle.collector.proofs.History.{History, history, stepped}
 use Rattle.collector.proofs.Heard.{Marked, Hears, hears}
-use Rattle.collector.proofs.Complete.{lowest-is, complete-heard, heard-complete}
+use Rattle.collector.proofs.Complete.{lowest-is, complete-heard}
 
 pub take-bytes : (n : ℕ) (l : List ℕ) → IsBytes l → IsBytes (take n l)
 take-bytes zero l b k = omega arith

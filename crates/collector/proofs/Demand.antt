@@ -195,6 +195,21 @@ module _ (h : List Call) (u : Calls h) where
       let e : answerOf (l .list) (a .index) ≡ a .content = among-explains (l .list) a (acceptedOf h) x (l .explains) in
       repeat-accepted h u a (omega (arith, ap length e, answer-length (l .list) (a .index))) x
 
+-- The same of honest answers, all of which are accepted: what was heard is what was answered.
+module _ (list : List ℕ) (b : IsBytes list) (s : length list ≤ capacity) (h : List Call) (e : Honest list h) where
+  explains-accepted : Explains list (acceptedOf h)
+  explains-accepted = subst (Explains list) (sym (honest-never-refused list b s h e)) (honest-explains list b s h e)
+
+  pub honest-complete-exactly : ((n : ℕ) × (standingOf (after h) ≡ accepted (complete n))) ↔ ((i : ℕ) → i ≤ lastOf (length list) → HeardIn i h)
+  honest-complete-exactly =
+      subst (λ (heard : List Call). ((n : ℕ) × (standingOf (after h) ≡ accepted (complete n))) ↔ ((i : ℕ) → i ≤ lastOf (length list) → HeardIn i heard))
+      (honest-never-refused list b s h e) (complete-exactly h (honest-calls list b h e) list s explains-accepted)
+
+  pub honest-list : ((i : ℕ) → i ≤ lastOf (length list) → HeardIn i h) → listOf (after h) ≡ accepted list
+  honest-list all =
+      complete-list h (honest-calls list b h e) list s explains-accepted
+      (λ i il. subst (HeardIn i) (sym (honest-never-refused list b s h e)) (all i il)) .1
+
 -- "Well-formed, the test that the code runs, is exactly reachable"
 module _ (c : Collector) (t : Held c) where
   pub well-formed-exactly : wellFormed c ≡ true ↔ Reachable c
