@@ -1,4 +1,5 @@
-//! The port, through C, against the model of the collector: the recorded questions, then a million random histories.
+//! The port, through C, against the model of the collector: the recorded questions and, with the word `million`, a million
+//! random histories.
 
 mod port;
 
@@ -26,18 +27,19 @@ fn main() {
         "collector: {count} recorded questions, {differ} answered otherwise than by the model"
     );
 
-    let hash = million_by::<Port>();
-    let model = MILLION.split_whitespace().next();
-    let same = model == Some(&hash);
-    println!(
-        "collector: all pairs and 1,048,576 random histories: hash {hash}, {}",
-        if same {
-            "the model's"
-        } else {
-            "NOT the model's"
-        }
-    );
-    if differ > 0 || !same {
+    if differ > 0 || std::env::args().nth(1).as_deref() == Some("million") && !million() {
         std::process::exit(1);
     }
+}
+
+fn million() -> bool {
+    let hash = million_by::<Port>();
+    let same = MILLION.split_whitespace().next() == Some(&hash);
+    let whose = if same {
+        "the model's"
+    } else {
+        "NOT the model's"
+    };
+    println!("collector: all pairs and 1,048,576 random histories: hash {hash}, {whose}");
+    same
 }
