@@ -1,12 +1,9 @@
 //! The port and the crate on the same work, in one run. Prints a table; the last column but one is what counts.
 
-mod plain;
-mod timing;
-
+use ghjalvestru_bench::plain::{Plain, CAPACITY, PART, PARTS};
+use ghjalvestru_bench::timing::{compare, heading};
 use oracle_core::app::auth::ChannelCipherSuites;
-use plain::{Plain, CAPACITY, PART, PARTS};
 use std::hint::black_box;
-use timing::{compare, heading};
 
 extern "C" {
     fn ghj_collector_answer(

@@ -80,4 +80,15 @@ impl Plain {
         self.bytes[place..place + part.len()].copy_from_slice(part);
         0
     }
+
+    /// The length of the list, or the lowest unheard index.
+    pub fn standing(&self) -> Result<usize, u8> {
+        let Some(lowest) = self.marks.iter().position(|&mark| mark == 0) else {
+            return Ok(self.least());
+        };
+        if lowest > 0 && usize::from(self.marks[lowest - 1]) <= PART {
+            return Ok(self.least());
+        }
+        Err(lowest as u8)
+    }
 }
