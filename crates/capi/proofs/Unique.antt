@@ -43,3 +43,12 @@ ghj-collector-suites-unique κs a ok z z′ w w′ q q′ = coder3 q q′
 
 pub ghj-collector-take-unique : UniqueWalk p.ghj_collector_take.ended (λ M 𝓤 H A mem run. p.ghj_collector_take.clauses 𝓤 H A mem run)
 ghj-collector-take-unique M 𝓤 H A mem run κs a g z z′ w w′ = facts 𝓤 (λ q q′. (both (q .answers) (q′ .answers), ap (λ x. (x, (tt, (tt, tt)))) (both (q .leaves) (q′ .leaves))))
+
+pub ghj-challenge-unique : Unique p.ghj_challenge.Kinds.ps p.ghj_challenge.Kinds.r p.ghj_challenge.Reads.Asked p.ghj_challenge.Reads.Learnt
+ghj-challenge-unique κs a ok z z′ w w′ q q′ = coder q q′
+
+pub ghj-activation-unique : Unique p.ghj_activation.Kinds.ps p.ghj_activation.Kinds.r p.ghj_activation.Reads.Asked p.ghj_activation.Reads.Learnt
+ghj-activation-unique κs a ok z z′ w w′ q q′ = coder q q′
+
+pub ghj-suites-unique : Unique p.ghj_suites.Kinds.ps p.ghj_suites.Kinds.r p.ghj_suites.Reads.Asked p.ghj_suites.Reads.Learnt
+ghj-suites-unique κs a ok z z′ w w′ q q′ = coder q q′

@@ -5,9 +5,10 @@ ghost use Rattle.base.specs.Refusal as spec;
 ghost use Rattle.base.specs.Written.{saidWritten};
 ghost use Rattle.base.specs.Verdict.{saidVerdict};
 ghost use Rattle.capi.specs.Number.{Codes, Takes, code, plain, standing};
+ghost use Rattle.capi.specs.Records.{activationRecord, challengeRecord, suitesRecord};
 ghost use Rattle.collector.specs.Collector.{listOf, saidStatus, standingOf, taking};
 ghost use Rattle.collector.specs.Shape.{held};
-ghost use Rattle.suites.specs.Collected.{suitesOf};
+ghost use Rattle.suites.specs.Collected as collected;
 ghost use Rattle.suites.specs.GetChannelCipherSuites.{numbersOf};
 use base::refusal::Refusal;
 use base::verdict::Verdict;
@@ -17,7 +18,11 @@ use collector::Status;
 use collector::answer_in;
 use collector::list_in;
 use collector::status_in;
+use session::activate_session::BeginAnswer;
+use session::activate_session::BeginSessionInfo;
+use session::get_session_challenge::SessionChallenge;
 use suites::collected::collected_suites_in;
+use suites::get_channel_cipher_suites::ChannelCipherSuites;
 use suites::get_channel_cipher_suites::suite_numbers;
 
 // A number above every length.
@@ -135,7 +140,48 @@ pub extern "C" fn ghj_collector_suites(
     marks: &[u8; Collector::PARTS],
     out: &mut [u8],
 ) -> u64
-    ensures { λ r. ⌜ Codes (suitesOf (held (now (bytes .entry)) (now (marks .entry)))) r (now (out .entry)) (now (out .exit)) ⌝ }
+    ensures { λ r. ⌜ Codes (collected.suitesOf (held (now (bytes .entry)) (now (marks .entry)))) r (now (out .entry)) (now (out .exit)) ⌝ }
 {
     code(collected_suites_in(bytes, marks, out))
+}
+
+// The readers of responses write the record's fields at the start of out.
+
+// Temporary session number, four bytes, low first; the challenge, sixteen.
+#[no_mangle]
+pub extern "C" fn ghj_challenge(response: &[u8], out: &mut [u8]) -> u64
+    ensures { λ r. ⌜ Codes (challengeRecord (now (response .entry))) r (now (out .entry)) (now (out .exit)) ⌝ }
+{
+    let answer = SessionChallenge::parse(response);
+    let verdict = answer.verdict;
+    let challenge = answer.challenge;
+    match verdict {
+        Verdict::Accepted => code(challenge.write(out)),
+        Verdict::Refused(refusal) => refused(refusal),
+    }
+}
+
+// Authentication type; session number and initial sequence number, four bytes each, low first; privilege level.
+#[no_mangle]
+pub extern "C" fn ghj_activation(response: &[u8], out: &mut [u8]) -> u64
+    ensures { λ r. ⌜ Codes (activationRecord (now (response .entry))) r (now (out .entry)) (now (out .exit)) ⌝ }
+{
+    match BeginSessionInfo::parse(response) {
+        BeginAnswer::Session(info) => code(info.write(out)),
+        BeginAnswer::Refused(refusal) => refused(refusal),
+    }
+}
+
+// The part of the list that the answer has.
+#[no_mangle]
+pub extern "C" fn ghj_suites(response: &[u8], out: &mut [u8]) -> u64
+    ensures { λ r. ⌜ Codes (suitesRecord (now (response .entry))) r (now (out .entry)) (now (out .exit)) ⌝ }
+{
+    let answer = ChannelCipherSuites::parse(response);
+    let verdict = answer.verdict;
+    let suites = answer.suites;
+    match verdict {
+        Verdict::Accepted => code(suites.write(out)),
+        Verdict::Refused(refusal) => refused(refusal),
+    }
 }

@@ -1,0 +1,25 @@
+-- The records that the C functions give, as bytes: include/ghjalvestru.h has the layouts.
+use Prim.Native.Nat.{ℕ}
+use mathlib.Core.List.{List}
+use Rattle.base.specs.Outcome.{Outcome, _>>=_}
+use Rattle.session.specs.ActivateSession.{beginBytes, beginOf}
+use Rattle.session.specs.GetSessionChallenge.{challengeBytes, challengeOf}
+use Rattle.suites.specs.GetChannelCipherSuites.{suitesBytes, suitesOf}
+
+-- temporary session number, four bytes, low first; the challenge
+abbrev pub challengeRecord : List ℕ → Outcome (List ℕ)
+challengeRecord response = do
+  challenge ← challengeOf response
+  challengeBytes challenge
+
+-- authentication type; session number and sequence number, four bytes each, low first; privilege level
+abbrev pub activationRecord : List ℕ → Outcome (List ℕ)
+activationRecord response = do
+  session ← beginOf response
+  beginBytes session
+
+-- the part of the list
+abbrev pub suitesRecord : List ℕ → Outcome (List ℕ)
+suitesRecord response = do
+  suites ← suitesOf response
+  suitesBytes suites
