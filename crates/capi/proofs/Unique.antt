@@ -52,3 +52,12 @@ ghj-activation-unique κs a ok z z′ w w′ q q′ = coder q q′
 
 pub ghj-suites-unique : Unique p.ghj_suites.Kinds.ps p.ghj_suites.Kinds.r p.ghj_suites.Reads.Asked p.ghj_suites.Reads.Learnt
 ghj-suites-unique κs a ok z z′ w w′ q q′ = coder q q′
+
+pub ghj-access-unique : Unique p.ghj_access.Kinds.ps p.ghj_access.Kinds.r p.ghj_access.Reads.Asked p.ghj_access.Reads.Learnt
+ghj-access-unique κs a ok z z′ w w′ q q′ = coder q q′
+
+pub ghj-info-unique : Unique p.ghj_info.Kinds.ps p.ghj_info.Kinds.r p.ghj_info.Reads.Asked p.ghj_info.Reads.Learnt
+ghj-info-unique κs a ok z z′ w w′ q q′ = coder q q′
+
+pub ghj-capabilities-unique : Unique p.ghj_capabilities.Kinds.ps p.ghj_capabilities.Kinds.r p.ghj_capabilities.Reads.Asked p.ghj_capabilities.Reads.Learnt
+ghj-capabilities-unique κs a ok z z′ w w′ q q′ = coder q q′
