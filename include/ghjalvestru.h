@@ -1,0 +1,98 @@
+/* Ghjalvestru from C: readers of IPMI channel and session answers, and the collector of a list of cipher suites.
+ *
+ * Every function takes any bytes and any numbers. A pair `const uint8_t *x, size_t x_length` is a slice, which may be
+ * empty; its pointer is never null. Slices that are written to and other slices do not overlap.
+ *
+ * Every function returns a number: what was accepted (0, or the length that was written), or a refusal. A refusal changes
+ * no byte that was lent. Records and messages are written at the start of `out`, and nothing behind them; they are refused
+ * with GHJ_NO_ROOM where `out` is too short.
+ *
+ * So far: the readers of the six responses, the list of suites, the collector. */
+#ifndef GHJALVESTRU_H
+#define GHJALVESTRU_H
+
+#include <stddef.h>
+#include <stdint.h>
+
+#ifdef __cplusplus
+extern "C" {
+#endif
+
+/* Is this number a refusal? Which one, and what byte does it carry? */
+#define GHJ_IS_REFUSED(number) (((number) >> 63) != 0)
+#define GHJ_REFUSAL(number) ((unsigned)((number) & 0xFF))
+#define GHJ_CARRIED(number) ((unsigned)(((number) >> 8) & 0xFF))
+
+enum ghj_refusal {
+    GHJ_NOT_ENOUGH_DATA = 1,
+    GHJ_TOO_MUCH_DATA = 2,
+    GHJ_INVALID_ZERO_SESSION = 3,
+    GHJ_INVALID_AUTH_TYPE = 4,       /* carries the byte */
+    GHJ_INVALID_PRIVILEGE_LEVEL = 5, /* carries the byte */
+    GHJ_NO_CHANNEL = 6,
+    GHJ_BAD_INDEX = 7,
+    GHJ_LONG_NAME = 8,
+    GHJ_NO_FORM = 9,
+    GHJ_NOT_A_REQUEST = 10,
+    GHJ_NO_ROOM = 11,
+    GHJ_DISAGREES = 12,
+    GHJ_INCOMPLETE = 13, /* carries the lowest unheard index */
+    GHJ_BAD_LINE = 14
+};
+
+/* Responses. `response` is the data behind the completion code; the number is the record's length. */
+
+/* Get Channel Access, 41h. 5 bytes: mode; alerting, per-message and user-level authentication DISABLED (0 or 1 each);
+ * privilege limit. */
+uint64_t ghj_access(const uint8_t *response, size_t response_length, uint8_t *out, size_t out_length);
+
+/* Get Channel Info, 42h. 11 bytes: channel; medium; protocol; session support; active sessions; vendor (four bytes, low
+ * first); two auxiliary bytes. */
+uint64_t ghj_info(const uint8_t *response, size_t response_length, uint8_t *out, size_t out_length);
+
+/* Get Channel Authentication Capabilities, 38h. 18 bytes: channel; OEM, Key, MD5, MD2, none; KG status, per-message
+ * enabled, user-level enabled, non-null names, null names, anonymous; v2.0, v1.5 (0 or 1 each); OEM id (three bytes);
+ * auxiliary. */
+uint64_t ghj_capabilities(const uint8_t *response, size_t response_length, uint8_t *out, size_t out_length);
+
+/* Get Session Challenge, 39h. 20 bytes: temporary session number (four bytes, low first); challenge (16). */
+uint64_t ghj_challenge(const uint8_t *response, size_t response_length, uint8_t *out, size_t out_length);
+
+/* Activate Session, 3Ah. 10 bytes: authentication type; session number and first sequence number (four bytes each, low
+ * first); privilege level. */
+uint64_t ghj_activation(const uint8_t *response, size_t response_length, uint8_t *out, size_t out_length);
+
+/* Get Channel Cipher Suites, 54h. The part of the list that the answer has, 0 to 16 bytes. */
+uint64_t ghj_suites(const uint8_t *response, size_t response_length, uint8_t *out, size_t out_length);
+
+/* The numbers of the suites of a whole list, a byte each, up to the first step of the reading that gives none. */
+uint64_t ghj_suite_numbers(const uint8_t *list, size_t list_length, uint8_t *out, size_t out_length);
+
+/* The collector: joins a list that arrives sixteen bytes at a time. A fresh one is all zeros. */
+struct ghj_collector {
+    uint8_t bytes[1024];
+    uint8_t marks[64];
+};
+
+/* The answer to an index: 0, or GHJ_NO_FORM, GHJ_BAD_INDEX, GHJ_TOO_MUCH_DATA, GHJ_DISAGREES, in this order. */
+uint64_t ghj_collector_answer(uint8_t bytes[1024], uint8_t marks[64], uint8_t index, const uint8_t *response,
+                              size_t response_length);
+
+/* The same, the collector lent whole: by copies, so slower. */
+uint64_t ghj_collector_take(struct ghj_collector *collector, uint8_t index, const uint8_t *response,
+                            size_t response_length);
+
+/* Complete: the list's length. Not: GHJ_IS_MISSING, and the lowest unheard index. Or GHJ_NO_FORM. */
+uint64_t ghj_collector_status(const uint8_t bytes[1024], const uint8_t marks[64]);
+#define GHJ_IS_MISSING(number) (((number) >> 16) == 1)
+#define GHJ_MISSING(number) ((unsigned)((number) & 0xFF))
+
+/* The whole list, and the numbers of its suites: GHJ_NO_FORM, then GHJ_INCOMPLETE, then GHJ_NO_ROOM. */
+uint64_t ghj_collector_list(const uint8_t bytes[1024], const uint8_t marks[64], uint8_t *out, size_t out_length);
+uint64_t ghj_collector_suites(const uint8_t bytes[1024], const uint8_t marks[64], uint8_t *out, size_t out_length);
+
+#ifdef __cplusplus
+}
+#endif
+
+#endif
