@@ -7,7 +7,7 @@ use native.Mathlib.Omega.{arith}
 use native.Mathlib.Numerals.{add-one}
 use borrow.Author.Tests.{ltb-true, ltb-false, eqb-true, eqb-false, lt-ltb, le-ltb, eq-eqb, ne-eqb}
 use lib.Dec.{eqb, ltb}
-use lib.ListN.{length, getD, take, drop, set, length-drop, length-set}
+use lib.ListN.{length, getD, take, drop, set, length-append, length-drop, length-set}
 use lib.Seq.{drop-cons, drop-length, getD-set-same, drop-set-lt, take-all}
 use Rattle.base.specs.Choice.{if_then_else_, if_from_to_then_else_}
 use Rattle.base.specs.Outcome.{Outcome, accepted, refused, _>>=_}
@@ -221,6 +221,32 @@ another text rest at all p q l e =
         drop-cons (set text (at - 1) d) (at - 1) 0 k′ ∙ rw (getD-set-same text (at - 1) d 0 k, s, drop-set-lt at text (at - 1) d (omega arith)) in
     let f : front rest ≡ decimal rest = simp (ne-eqb rest 0 (λ z. omega arith)) in
     rw x (sym (append-assoc (front (rest / 10)) (d ∷ []) (drop at text)) ∙ ap (λ x. x ++ drop at text) (last-digit rest ∙ sym f) ∙ e)
+
+decimal-length : (k n : ℕ) → n < ten (suc k) → length (decimal n) ≤ suc k
+unfolding ten
+decimal-length zero n h = let e = one-digit n h in rw e (omega arith)
+decimal-length (suc k) n h = go (ltb n 10) refl (decimal-length k (n / 10) (omega arith))
+  where
+    go : (b : Bool) → ltb n 10 ≡ b → length (decimal (n / 10)) ≤ suc k → length (decimal n) ≤ suc (suc k)
+    go true p l = rw (one-digit n (ltb-true n 10 p)) (omega arith)
+    go false p l = rw (more-digits n (ltb-false n 10 p), length-append) (omega arith)
+
+pub decimal-fits : (n : ℕ) → n < 18446744073709551616 → length (decimal n) ≤ 20
+unfolding ten
+decimal-fits n h = decimal-length 19 n (omega arith)
+
+pub decimal-digits : (n : ℕ) → n < 256 → length (decimal n) ≡ (if ltb n 10 then 1 else if ltb n 100 then 2 else 3)
+decimal-digits n h = go (ltb n 10) (ltb n 100) refl refl
+  where
+    two : (m : ℕ) → 10 ≤ m → m < 100 → length (decimal m) ≡ 2
+    two m p q = rw (more-digits m p, length-append, one-digit (m / 10) (omega arith))
+
+    go : (x y : Bool) → ltb n 10 ≡ x → ltb n 100 ≡ y → length (decimal n) ≡ (if x then 1 else if y then 2 else 3)
+    go true y p q = rw (one-digit n (ltb-true n 10 p))
+    go false true p q = two n (ltb-false n 10 p) (ltb-true n 100 q)
+    go false false p q =
+        let l = ltb-false n 100 q in
+        rw (more-digits n (omega arith), length-append, two (n / 10) (omega arith) (omega arith))
 
 -- Newlines.
 
