@@ -66,7 +66,7 @@ module _ (t : List ℕ) (at : ℕ) where
       standing piece t (putMid at (length t - at) t part) at end k (omega arith) (rw k (put-behind piece part (placed w (rw l (omega arith)))))
 
 -- one piece behind another
-infixr 20 _then_
+infixl 20 _then_
 pub _then_ : {p q before middle after : List ℕ} {at end end′ : ℕ} → Appends p before at middle end → Appends q middle end after end′ → Appends (p ++ q) before at after end′
 _then_ {p} {q} {before} {middle} {after} {at} {end} {end′} a b =
     record {
@@ -87,3 +87,7 @@ added most t at piece part end l h w e =
 pub wrote-most : (most : ℕ) (t : List ℕ) (at : ℕ) (piece part : List ℕ) {r : Written} → length piece ≤ most → at + most ≤ length t
     → Writes (accepted piece) r (behind t at) part → at + wrote r ≤ length t
 wrote-most most t at piece part l h w = let e = wrote-behind t at piece part w (omega arith) in omega arith
+
+-- a text that was built from the start of an array is placed
+pub shown : {piece before after : List ℕ} {end : ℕ} {r : Written} {b a : List ℕ} → Appends piece before 0 after end → Writes (accepted (take (end - 0) after)) r b a → Writes (accepted piece) r b a
+shown {end} p w = let z : end - 0 ≡ end = omega arith in rw (z, p .holds) at w

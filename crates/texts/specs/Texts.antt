@@ -5,6 +5,8 @@ use mathlib.Core.List.{List, [], _∷_, _++_}
 use mathlib.Core.Option.{Option, none, some}
 use Rattle.auth.specs.Auth.{authTypeName}
 use Rattle.auth.specs.declared.AuthType.{AuthType}
+use Rattle.auth.specs.declared.AuthTypeAnswer.{AuthTypeAnswer}
+use Rattle.auth.specs.declared.AuthTypeAnswer.the-variants as Answer
 use Rattle.base.specs.Choice.{if_then_else_}
 use Rattle.base.specs.Connection.{channelText}
 use Rattle.base.specs.Text.{ascii, hex2}
@@ -16,13 +18,10 @@ use Rattle.lines.specs.Lines.{decimal, space}
 
 unfoldable pub infoText : ChannelInfo → List ℕ
 infoText i =
-    ascii "info " ++ channelText (i .channel)
-    ++ ascii ", " ++ mediumText (i .«medium_type»)
-    ++ ascii ", " ++ protocolText (i .«protocol_type»)
-    ++ ascii ", " ++ sessionText (i .«session_support»)
-    ++ ascii ", " ++ decimal (i .«active_sessions») ++ ascii " active"
-    ++ ascii ", vendor " ++ decimal (i .«vendor_id»)
-    ++ ascii ", aux " ++ hex2 (i .«aux_info» .byte1) ++ ascii " " ++ hex2 (i .«aux_info» .byte2)
+    (ascii "info " ++ channelText (i .channel) ++ ascii ", " ++ mediumText (i .«medium_type»))
+    ++ (ascii ", " ++ protocolText (i .«protocol_type») ++ ascii ", " ++ sessionText (i .«session_support»))
+    ++ (ascii ", " ++ decimal (i .«active_sessions») ++ ascii " active, vendor " ++ decimal (i .«vendor_id»))
+    ++ (ascii ", aux " ++ hex2 (i .«aux_info» .byte1) ++ ascii " " ++ hex2 (i .«aux_info» .byte2))
 
 -- off where it is DISABLED
 abbrev pub stateText : Bool → List ℕ
@@ -31,15 +30,19 @@ stateText disabled = if disabled then ascii "off" else ascii "on"
 unfoldable pub accessText : ChannelAccess → List ℕ
 accessText a =
     ascii "access " ++ modeText (a .«access_mode»)
-    ++ ascii ", alerting " ++ stateText (a .«alerting_disabled»)
-    ++ ascii ", per-message " ++ stateText (a .«per_msg_auth_disabled»)
-    ++ ascii ", user-level " ++ stateText (a .«user_level_auth_disabled»)
+    ++ ((ascii ", alerting " ++ stateText (a .«alerting_disabled»))
+    ++ (ascii ", per-message " ++ stateText (a .«per_msg_auth_disabled»))
+    ++ (ascii ", user-level " ++ stateText (a .«user_level_auth_disabled»)))
     ++ ascii ", limit " ++ limitText (a .«privilege_level_limit»)
 
 -- "`cap` prints the crate's AuthType name or `-`"
 abbrev pub nameOr : Option AuthType → List ℕ
 nameOr (some kind) = authTypeName kind
 nameOr none = ascii "-"
+
+abbrev pub chosen : AuthTypeAnswer → Option AuthType
+chosen (Answer.AuthType kind) = some kind
+chosen Answer.Nothing = none
 
 unfoldable pub authText : Option AuthType → List ℕ
 authText best = ascii "auth " ++ nameOr best
