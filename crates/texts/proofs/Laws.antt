@@ -3,17 +3,22 @@ use mathlib.Core.Path.{_≡_, refl, sym, _∙_, ap}
 use mathlib.Core.Bool.{Bool, true, false}
 use mathlib.Core.List.{List, [], _∷_, _++_, append-assoc, append-nil}
 use Prim.Native.Nat.{ℕ, zero, suc, _+_, _-_, _*_, _/_, _%_, _≤_, _<_}
+use native.Mathlib.Numerals.{add-one}
 use native.Mathlib.Omega.{arith}
-use borrow.Author.Tests.{le-ltb}
+use borrow.Author.Tests.{ltb-true, ltb-false, lt-ltb, le-ltb}
 use borrow.Rule.Slice.PartMut.{midOf, putMid, same-len-mid, mid-len}
-use lib.ListN.{length, take, drop, length-append, length-drop, drop-of-length-le}
-use lib.Seq.{length-take-le, take-all, take-at, drop-at, drop-drop, drop-append-add, take-append-add, take-append-seam}
+use lib.Dec.{ltb}
+use lib.ListN.{length, getD, take, drop, take-append-drop, length-append, length-drop, drop-of-length-le}
+use lib.Seq.{take-suc, drop-cons, drop-length, length-take-le, take-all, take-at, drop-at, drop-drop, drop-append-add, take-append-add, take-append-seam}
 use Rattle.base.specs.Outcome.{accepted, refused}
+use Rattle.base.specs.Text.{ascii}
 use Rattle.base.specs.Written.{Writes, written, lengthOf, over, saidWritten}
 use Rattle.base.specs.declared.written.Written.{Written}
 use Rattle.base.specs.declared.written.Written.the-variants.{Length, Refused}
-use Rattle.base.proofs.written.Laws.{placed}
+use Rattle.base.proofs.written.Laws.{fitting, placed}
+use Rattle.lines.specs.Lines.{decimal, space}
 use Rattle.texts.specs.Appends.{Adds, Appends, wrote}
+use Rattle.texts.specs.Texts.{spaced, suitesText}
 
 -- what is written where there is room
 said-length : (r : Written) (n : ℕ) → saidWritten r ≡ accepted n → wrote r ≡ n
@@ -91,3 +96,45 @@ wrote-most most t at piece part l h w = let e = wrote-behind t at piece part w (
 -- a text that was built from the start of an array is placed
 pub shown : {piece before after : List ℕ} {end : ℕ} {r : Written} {b a : List ℕ} → Appends piece before 0 after end → Writes (accepted (take (end - 0) after)) r b a → Writes (accepted piece) r b a
 shown {end} p w = let z : end - 0 ≡ end = omega arith in rw (z, p .holds) at w
+
+-- nothing is added
+pub still : (t : List ℕ) (at : ℕ) → at ≤ length t → Appends [] t at t at
+still t at h = record { moves = omega arith; fits = h; keeps = refl; holds = sym (append-nil (take at t)); rest = refl }
+
+-- a text that was built in the lent buffer itself
+pub written-whole : {piece before after : List ℕ} {end : ℕ} → Appends piece before 0 after end → Writes (accepted piece) (Length end) before after
+written-whole {piece} {before} {after} {end} a =
+    let m : end ≡ length piece = omega arith in
+    let e : after ≡ piece ++ drop (length piece) before = sym (take-append-drop end after) ∙ rw (a .holds, a .rest, m) in
+    rw (e, m) (fitting piece before (omega arith))
+
+-- Numbers with a space before each.
+
+spaced-more : (numbers : List ℕ) (n : ℕ) → spaced (numbers ++ (n ∷ [])) ≡ spaced numbers ++ (space ∷ decimal n)
+unfolding spaced
+spaced-more [] n = append-nil (space ∷ decimal n)
+spaced-more (x ∷ numbers) n = rw (spaced-more numbers n) (sym (append-assoc (space ∷ decimal x) (spaced numbers) (space ∷ decimal n)))
+
+module _ (numbers : List ℕ) (i : ℕ) (h : i < length numbers) where
+  pub spaced-next : spaced (take (i + 1) numbers) ≡ spaced (take i numbers) ++ (space ∷ decimal (getD numbers i 0))
+  spaced-next = rw (add-one i, take-suc numbers i 0 h) (spaced-more (take i numbers) (getD numbers i 0))
+
+  pub spaced-rest : length (spaced (drop i numbers)) ≡ length (space ∷ decimal (getD numbers i 0)) + length (spaced (drop (i + 1) numbers))
+  unfolding spaced
+  spaced-rest = rw (add-one i, drop-cons numbers i 0 h) (length-append (space ∷ decimal (getD numbers i 0)) (spaced (drop (suc i) numbers)))
+
+pub spaced-none : (numbers : List ℕ) (i : ℕ) → i ≡ length numbers → spaced (drop i numbers) ≡ []
+unfolding spaced
+spaced-none numbers i e = rw (e, drop-length numbers)
+
+pub suites-length : (numbers : List ℕ) → length (suitesText numbers) ≡ 6 + length (spaced numbers)
+unfolding suitesText
+suites-length numbers = length-append (ascii "suites") (spaced numbers)
+
+-- what is left of the room behind a part of the text
+pub room-left : (room part rest : ℕ) → part ≤ room → ltb room (part + rest) ≡ ltb (room - part) rest
+room-left room part rest h = go (ltb (room - part) rest) refl
+  where
+    go : (b : Bool) → ltb (room - part) rest ≡ b → ltb room (part + rest) ≡ b
+    go true e = let l = ltb-true (room - part) rest e in lt-ltb room (part + rest) (omega arith)
+    go false e = let l = ltb-false (room - part) rest e in le-ltb room (part + rest) (omega arith)

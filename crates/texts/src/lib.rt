@@ -1,22 +1,24 @@
 // The texts of chandump's answers, each at the start of a lent buffer. A text is built a piece at a time, in an array
 // that holds any text of its kind.
 ghost use Prim.Native.Nat.{_+_, _<_, _≤_};
-ghost use mathlib.Core.List.{_++_};
+ghost use mathlib.Core.List.{_++_, _∷_};
 ghost use mathlib.Core.Path.{_≡_};
 ghost use lib.ListN.{length};
 ghost use Rattle.auth.specs.Auth.{authTypeName};
+ghost use Rattle.base.specs.Choice.{_<?_};
 ghost use Rattle.base.specs.Connection.{channelText};
 ghost use Rattle.base.specs.Outcome.{accepted};
 ghost use Rattle.base.specs.Text.{ascii, hex2};
 ghost use Rattle.base.specs.Written.{Writes};
 ghost use Rattle.channel.specs.GetChannelAccess.{limitText, modeText};
 ghost use Rattle.info.specs.GetChannelInfo.{mediumText, protocolText, sessionText};
-ghost use Rattle.lines.specs.Lines.{decimal};
+ghost use Rattle.lines.specs.Lines.{decimal, space};
 ghost use Rattle.texts.specs.Appends.{Adds, Appends, wrote};
-ghost use Rattle.texts.specs.Texts.{accessText, authText, blockText, chosen, infoText, missingText, refusedText, stateText};
+ghost use Rattle.texts.specs.Texts.{accessText, authText, blockText, chosen, infoText, missingText, refusedText, stateText, suitesText};
 use auth::AuthType;
 use auth::AuthTypeAnswer;
 use base::connection::Channel;
+use base::refusal::Refusal;
 use base::written::Written;
 use base::written::place;
 use channel::get_channel_access::ChannelAccess;
@@ -262,4 +264,63 @@ pub fn missing_text(n: u8, out: &mut [u8]) -> Written
     ensures { λ r. ⌜ Writes (accepted (missingText n)) r (now (out .entry)) (now (out .exit)) ⌝ }
 {
     counted(b"missing ", n, out)
+}
+
+// A number and the space before it.
+fn put_spaced(n: u8, into: &mut [u8], at: usize) -> usize
+    requires { ⌜ at + length (space ∷ decimal n) ≤ length (now into) ⌝ }
+    ensures { λ r. ⌜ Appends (space ∷ decimal n) (now (into .entry)) at (now (into .exit)) r ⌝ }
+{
+    let first = put(b" ", into, at);
+    let written = decimal(n as u64, &mut into[first..]);
+    past(first, written)
+}
+
+// How many bytes a number and the space before it take.
+fn width(n: u8) -> usize
+    ensures { λ r. ⌜ r ≡ length (space ∷ decimal n) ⌝ }
+{
+    if n < 10 {
+        return 2;
+    }
+    if n < 100 {
+        return 3;
+    }
+    4
+}
+
+// Whether so much room is too little for the text.
+fn lacks(numbers: &[u8], room: usize) -> bool
+    ensures { λ r. ⌜ r ≡ (room <? length (suitesText (now (numbers .entry)))) ⌝ }
+{
+    if room < 6 {
+        return true;
+    }
+    let mut left = room - 6;
+    let mut i: usize = 0;
+    while i < numbers.len() {
+        let wide = width(numbers[i]);
+        if left < wide {
+            return true;
+        }
+        left -= wide;
+        i += 1;
+    }
+    false
+}
+
+// A list of any length: it is measured before it is written.
+pub fn suites_text(numbers: &[u8], out: &mut [u8]) -> Written
+    ensures { λ r. ⌜ Writes (accepted (suitesText (now (numbers .entry)))) r (now (out .entry)) (now (out .exit)) ⌝ }
+{
+    if lacks(numbers, out.len()) {
+        return Written::Refused(Refusal::NoRoom);
+    }
+    let mut at = put(b"suites", out, 0);
+    let mut i: usize = 0;
+    while i < numbers.len() {
+        at = put_spaced(numbers[i], out, at);
+        i += 1;
+    }
+    Written::Length(at)
 }
