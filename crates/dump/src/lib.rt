@@ -204,3 +204,72 @@ fn hear(
         Verdict::Refused(refusal) => refused_text(refusal.number(), out),
     }
 }
+
+fn hear_pairs(
+    bytes: &mut [u8; Collector::CAPACITY],
+    marks: &mut [u8; Collector::PARTS],
+    pairs: &[u8],
+    out: &mut [u8],
+) -> Written
+    ensures { λ r. ⌜ Answers (saying (held (now (bytes .entry)) (now (marks .entry))) Word.Sui (now (pairs .entry))) r (now (out .entry)) (now (out .exit)) (held (now (bytes .entry)) (now (marks .entry))) (held (now (bytes .exit)) (now (marks .exit))) ⌝ }
+{
+    if pairs.len() == 0 {
+        return refused_text(Refusal::BadLine.number(), out);
+    }
+    hear(bytes, marks, pairs[0], &pairs[1..], out)
+}
+
+fn end_pairs(
+    bytes: &mut [u8; Collector::CAPACITY],
+    marks: &mut [u8; Collector::PARTS],
+    pairs: &[u8],
+    out: &mut [u8],
+) -> Written
+    ensures { λ r. ⌜ Answers (saying (held (now (bytes .entry)) (now (marks .entry))) Word.End (now (pairs .entry))) r (now (out .entry)) (now (out .exit)) (held (now (bytes .entry)) (now (marks .entry))) (held (now (bytes .exit)) (now (marks .exit))) ⌝ }
+{
+    if pairs.len() != 0 {
+        return refused_text(Refusal::BadLine.number(), out);
+    }
+    end(bytes, marks, out)
+}
+
+fn say(
+    bytes: &mut [u8; Collector::CAPACITY],
+    marks: &mut [u8; Collector::PARTS],
+    word: Word,
+    pairs: &[u8],
+    out: &mut [u8],
+) -> Written
+    ensures { λ r. ⌜ Answers (saying (held (now (bytes .entry)) (now (marks .entry))) word (now (pairs .entry))) r (now (out .entry)) (now (out .exit)) (held (now (bytes .entry)) (now (marks .entry))) (held (now (bytes .exit)) (now (marks .exit))) ⌝ }
+{
+    match word {
+        Word::Inf => info(pairs, out),
+        Word::Acc => access(pairs, out),
+        Word::Cap => capabilities(pairs, out),
+        Word::Sui => hear_pairs(bytes, marks, pairs, out),
+        Word::End => end_pairs(bytes, marks, pairs, out),
+        Word::Other => refused_text(Refusal::BadLine.number(), out),
+    }
+}
+
+// The answer to a line at the start of out, without a newline, and the collector behind the line.
+pub fn dump(
+    bytes: &mut [u8; Collector::CAPACITY],
+    marks: &mut [u8; Collector::PARTS],
+    line: &[u8],
+    out: &mut [u8],
+) -> Written
+    ensures { λ r. ⌜ Answers (answering (held (now (bytes .entry)) (now (marks .entry))) (now (line .entry))) r (now (out .entry)) (now (out .exit)) (held (now (bytes .entry)) (now (marks .entry))) (held (now (bytes .exit)) (now (marks .exit))) ⌝ }
+{
+    if LONGEST < line.len() {
+        return refused_text(Refusal::BadLine.number(), out);
+    }
+    if line.len() < LETTERS {
+        return refused_text(Refusal::BadLine.number(), out);
+    }
+    let mut pairs = [0u8; PAIRS];
+    let Written::Length(n) = read_pairs(&line[LETTERS..], &mut pairs) else {
+        return refused_text(Refusal::BadLine.number(), out);
+    };
+    say(bytes, marks, word_of(line), &pairs[0..n], out)
+}

@@ -1,100 +1,64 @@
 use borrow.Author.Needs.{needs}
+use native.Mathlib.Omega.{arith}
+use mathlib.Core.Path.{sym, ap, _∙_}
+use lib.ListN.{length-take}
+use Rattle.collector.specs.Collector.{saidStatus}
+use Rattle.collector.specs.Shape.{held}
+use Rattle.collector.proofs.Entries.{told-within}
+use Rattle.dump.proofs.Laws.{formless, lacked, listed}
 use Rattle.dump.proofs.list.Statement.{statement}
 use Rattle.dump.proofs.list.Tie as tie
-use Rattle.dump.proofs.list.Reads as reads
-use Rattle.dump.proofs.list.Lts as lts
-use Rattle.base.proofs.refusal.Refusal.number.Reads as number-reads
-use Rattle.collector.proofs.status_in.Reads as status-in-reads
-use Rattle.dump.proofs.suites.Reads as suites-reads
-use Rattle.texts.proofs.missing_text.Reads as missing-text-reads
-use Rattle.texts.proofs.refused_text.Reads as refused-text-reads
 
--- src/lib.rt:139:9
-status-in-requires : tie.Need-status-in-requires
-status-in-requires c κs = search needs
-
--- src/lib.rt:141:26
-enum-known-status : tie.Need-enum-known-status
-enum-known-status c = search needs
-
--- src/lib.rt:143:20
-sub-suites : tie.Need-sub-suites
-sub-suites c = search needs
-
--- src/lib.rt:143:20
-part-suites-start : tie.Need-part-suites-start
-part-suites-start c = search needs
-
--- src/lib.rt:143:20
 part-suites-end : tie.Need-part-suites-end
-part-suites-end c = ?
+part-suites-end c =
+    let k = c .before .before in
+    let a = k .before .before .before .before .args in
+    let l = told-within (held (a .bytes .now) (a .marks .now)) (k .status .given .0 .0) (sym (k .before .before .status-in .ensures) ∙ ap saidStatus (k .status .given .1)) in
+    omega (arith, c .all .given .0)
 
--- src/lib.rt:143:13
 suites-requires : tie.Need-suites-requires
-suites-requires c κs = ?
+suites-requires c κs =
+    let k = c .before .before .before .before in
+    let a = k .before .before .before .before .args in
+    let l = told-within (held (a .bytes .now) (a .marks .now)) (k .status .given .0 .0) (sym (k .before .before .status-in .ensures) ∙ ap saidStatus (k .status .given .1)) in
+    rw length-take (omega arith)
 
--- src/lib.rt:145:25
-enum-known-status-2 : tie.Need-enum-known-status-2
-enum-known-status-2 c = search needs
-
--- src/lib.rt:145:35
-missing-text-requires : tie.Need-missing-text-requires
-missing-text-requires c κs = search needs
-
--- src/lib.rt:146:40
-enum-told : tie.Need-enum-told
-enum-told c = search needs
-
--- src/lib.rt:146:40
-number-requires : tie.Need-number-requires
-number-requires c κs = search needs
-
--- src/lib.rt:146:27
-refused-text-requires : tie.Need-refused-text-requires
-refused-text-requires c κs = search needs
-
--- src/lib.rt:136:1
-same-length : tie.Need-same-length
-same-length c = search needs
-
--- src/lib.rt:136:1
 returns : tie.Need-returns
-returns c = ?
+returns c =
+    let k = c .before .before .before .before .before .before .before in
+    let a = k .before .before .before .before .args in
+    listed (held (a .bytes .now) (a .marks .now)) (k .status .given .0 .0) (sym (k .before .before .status-in .ensures) ∙ ap saidStatus (k .status .given .1)) (c .before .before .suites .ensures)
 
--- src/lib.rt:136:1
-same-length-2 : tie.Need-same-length-2
-same-length-2 c = search needs
-
--- src/lib.rt:136:1
 returns-2 : tie.Need-returns-2
-returns-2 c = ?
+returns-2 c =
+    let k = c .before .before .before .before .before in
+    let a = k .before .before .before .before .args in
+    lacked (held (a .bytes .now) (a .marks .now)) (k .status2 .given .0 .0) (sym (k .before .before .status-in .ensures) ∙ ap saidStatus (k .status2 .given .1)) (c .before .before .missing-text .ensures)
 
--- src/lib.rt:136:1
-same-length-3 : tie.Need-same-length-3
-same-length-3 c = search needs
-
--- src/lib.rt:136:1
 returns-3 : tie.Need-returns-3
-returns-3 c = ?
+returns-3 c =
+    let k = c .before .before .before .before .before in
+    let a = k .before .before .before .before .args in
+    formless (held (a .bytes .now) (a .marks .now)) (sym (k .before .before .status-in .ensures) ∙ ap saidStatus (k .enum-told .given .1)) (rw (c .before .before .before .before .number .ensures) at (c .before .before .refused-text .ensures))
 
 pub list-spec : {M : Type 1} → statement M
 list-spec =
     tie.close
     (tie.spec
-    status-in-requires
-    enum-known-status
-    sub-suites
-    part-suites-start
+    (search needs)
+    (search needs)
+    (search needs)
+    (search needs)
     part-suites-end
     suites-requires
-    enum-known-status-2
-    missing-text-requires
-    enum-told
-    number-requires
-    refused-text-requires
-    same-length
+    (search needs)
+    (search needs)
+    (search needs)
+    (search needs)
+    (search needs)
+    (search needs)
     returns
-    same-length-2
+    (search needs)
     returns-2
-    same-length-3
+    (search needs)
     returns-3)

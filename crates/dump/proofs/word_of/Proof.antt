@@ -1,66 +1,65 @@
 use borrow.Author.Needs.{needs}
+use mathlib.Core.Path.{refl, sym, _∙_}
+use Rattle.dump.proofs.Laws.{words}
 use Rattle.dump.proofs.word_of.Statement.{statement}
 use Rattle.dump.proofs.word_of.Tie as tie
-use Rattle.dump.proofs.word_of.Reads as reads
-use Rattle.dump.proofs.word_of.Lts as lts
-use Rattle.dump.proofs.begins.Reads as begins-reads
 
--- src/lib.rt:76:8
-begins-requires : tie.Need-begins-requires
-begins-requires c κs = search needs
-
--- src/lib.rt:77:9
 returns : tie.Need-returns
-returns c = ?
+returns c =
+    let k1 = c in
+    words (k1 .before .before .before .before .before .args .line .now) _ _ _ _ _ (sym (k1 .before .begins .ensures) ∙ k1 .if1 .taken) refl refl refl refl
 
--- src/lib.rt:79:8
-begins-requires-2 : tie.Need-begins-requires-2
-begins-requires-2 c κs = search needs
-
--- src/lib.rt:80:9
 returns-2 : tie.Need-returns-2
-returns-2 c = ?
+returns-2 c =
+    let k2 = c in
+    let k1 = k2 .before .before .before .before in
+    words (k1 .before .before .before .before .before .args .line .now) _ _ _ _ _ (sym (k1 .before .begins .ensures) ∙ k1 .if1 .left) (sym (k2 .before .begins2 .ensures) ∙ k2 .if2 .taken) refl refl refl
 
--- src/lib.rt:82:8
-begins-requires-3 : tie.Need-begins-requires-3
-begins-requires-3 c κs = search needs
-
--- src/lib.rt:83:9
 returns-3 : tie.Need-returns-3
-returns-3 c = ?
+returns-3 c =
+    let k3 = c in
+    let k2 = k3 .before .before .before .before in
+    let k1 = k2 .before .before .before .before in
+    words (k1 .before .before .before .before .before .args .line .now) _ _ _ _ _ (sym (k1 .before .begins .ensures) ∙ k1 .if1 .left) (sym (k2 .before .begins2 .ensures) ∙ k2 .if2 .left) (sym (k3 .before .begins3 .ensures) ∙ k3 .if3 .taken) refl refl
 
--- src/lib.rt:85:8
-begins-requires-4 : tie.Need-begins-requires-4
-begins-requires-4 c κs = search needs
-
--- src/lib.rt:86:9
 returns-4 : tie.Need-returns-4
-returns-4 c = ?
+returns-4 c =
+    let k4 = c in
+    let k3 = k4 .before .before .before .before in
+    let k2 = k3 .before .before .before .before in
+    let k1 = k2 .before .before .before .before in
+    words (k1 .before .before .before .before .before .args .line .now) _ _ _ _ _ (sym (k1 .before .begins .ensures) ∙ k1 .if1 .left) (sym (k2 .before .begins2 .ensures) ∙ k2 .if2 .left) (sym (k3 .before .begins3 .ensures) ∙ k3 .if3 .left) (sym (k4 .before .begins4 .ensures) ∙ k4 .if4 .taken) refl
 
--- src/lib.rt:88:8
-begins-requires-5 : tie.Need-begins-requires-5
-begins-requires-5 c κs = search needs
-
--- src/lib.rt:89:9
 returns-5 : tie.Need-returns-5
-returns-5 c = ?
+returns-5 c =
+    let k5 = c in
+    let k4 = k5 .before .before .before .before in
+    let k3 = k4 .before .before .before .before in
+    let k2 = k3 .before .before .before .before in
+    let k1 = k2 .before .before .before .before in
+    words (k1 .before .before .before .before .before .args .line .now) _ _ _ _ _ (sym (k1 .before .begins .ensures) ∙ k1 .if1 .left) (sym (k2 .before .begins2 .ensures) ∙ k2 .if2 .left) (sym (k3 .before .begins3 .ensures) ∙ k3 .if3 .left) (sym (k4 .before .begins4 .ensures) ∙ k4 .if4 .left) (sym (k5 .before .begins5 .ensures) ∙ k5 .if5 .taken)
 
--- src/lib.rt:73:1
 returns-6 : tie.Need-returns-6
-returns-6 c = ?
+returns-6 c =
+    let k5 = c in
+    let k4 = k5 .before .before .before .before in
+    let k3 = k4 .before .before .before .before in
+    let k2 = k3 .before .before .before .before in
+    let k1 = k2 .before .before .before .before in
+    words (k1 .before .before .before .before .before .args .line .now) _ _ _ _ _ (sym (k1 .before .begins .ensures) ∙ k1 .if1 .left) (sym (k2 .before .begins2 .ensures) ∙ k2 .if2 .left) (sym (k3 .before .begins3 .ensures) ∙ k3 .if3 .left) (sym (k4 .before .begins4 .ensures) ∙ k4 .if4 .left) (sym (k5 .before .begins5 .ensures) ∙ k5 .if5 .left)
 
 pub word-of-spec : {M : Type 1} → statement M
 word-of-spec =
     tie.close
     (tie.spec
-    begins-requires
+    (search needs)
     returns
-    begins-requires-2
+    (search needs)
     returns-2
-    begins-requires-3
+    (search needs)
     returns-3
-    begins-requires-4
+    (search needs)
     returns-4
-    begins-requires-5
+    (search needs)
     returns-5
     returns-6)
