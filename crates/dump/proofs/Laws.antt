@@ -7,8 +7,8 @@ use Prim.Native.Nat.{ℕ, zero, suc, _+_, _-_, _*_, _≤_, _<_}
 use native.Mathlib.Omega.{arith}
 use borrow.Author.Tests.{lt-ltb, le-ltb, eq-eqb}
 use lib.Dec.{eqb, ltb}
-use lib.ListN.{length, getD, take, drop, length-drop}
-use lib.Seq.{take-append-seam, take-length}
+use lib.ListN.{length, getD, take, drop, length-append, length-drop}
+use lib.Seq.{take-all, take-append-seam, take-length}
 use Rattle.auth.specs.Auth.{saidAuthType}
 use Rattle.auth.specs.declared.AuthType.{AuthType}
 use Rattle.auth.specs.declared.AuthTypeAnswer.{AuthTypeAnswer}
@@ -30,7 +30,7 @@ use Rattle.collector.specs.Collector.{complete, fresh, listOf, missing, standin
 use Rattle.collector.specs.declared.Collector.{Collector}
 use Rattle.collector.proofs.Entries.{unformed, unlisted}
 use Rattle.lines.specs.Lines.{pairsOf}
-use Rattle.lines.proofs.Laws.{bytes-at}
+use Rattle.lines.proofs.Laws.{bytes-at, decimal-fits}
 use Rattle.suites.specs.GetChannelCipherSuites.{before, numbersOf, stepAt, upTo}
 use Rattle.suites.specs.declared.get_channel_cipher_suites.SuiteAnswer.{SuiteAnswer}
 use Rattle.suites.specs.declared.get_channel_cipher_suites.SuiteAnswer.the-variants as Suites
@@ -144,6 +144,13 @@ refused-it (refused n k) x w q = let s = sym (ap saidVerdict q) ∙ w .says in (
 pub best : (r : AuthTypeAnswer) (b : Option AuthType) → saidAuthType r ≡ accepted b → chosen r ≡ b
 best (Best.AuthType k) b e = cc
 best Best.Nothing b e = cc
+
+pub block-fits : (i n : ℕ) → i < 256 → n < 18446744073709551616 → length (blockText i n) ≤ 64
+unfolding blockText
+block-fits i n p q =
+    let d = decimal-fits i (omega arith) in
+    let e = decimal-fits n q in
+    rw (length-append, length-append, length-append, length-append) (omega arith)
 
 -- Suites.
 
@@ -267,3 +274,7 @@ module _ (c : Collector) where
     pub read-as : (bytes : List ℕ) → pairsOf (drop 3 line) ≡ accepted bytes → answering c line ≡ saying c (wordOf line) bytes
     unfolding answering
     read-as bytes e = rw (le-ltb longest (length line) l, e)
+
+-- the line behind its word
+pub behind : (line : List ℕ) → take (length line - 3) (drop 3 line) ≡ drop 3 line
+behind line = let d = length-drop 3 line in take-all (length line - 3) (drop 3 line) (omega arith)

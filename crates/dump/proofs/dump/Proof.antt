@@ -1,145 +1,84 @@
 use borrow.Author.Needs.{needs}
+use native.Mathlib.Omega.{arith}
+use mathlib.Core.Path.{sym, _∙_}
+use lib.ListN.{take, drop}
+use Prim.Native.Nat.{_-_}
+use Rattle.collector.specs.Shape.{held}
+use Rattle.dump.proofs.Laws.{behind, brief, kept, long, read-as, readable, unreadable}
 use Rattle.dump.proofs.dump.Statement.{statement}
 use Rattle.dump.proofs.dump.Tie as tie
-use Rattle.dump.proofs.dump.Reads as reads
-use Rattle.dump.proofs.dump.Lts as lts
-use Rattle.base.proofs.refusal.Refusal.number.Reads as number-reads
-use Rattle.dump.proofs.say.Reads as say-reads
-use Rattle.dump.proofs.word_of.Reads as word-of-reads
-use Rattle.lines.proofs.read_pairs.Reads as read-pairs-reads
-use Rattle.texts.proofs.refused_text.Reads as refused-text-reads
 
--- src/lib.rt:265:29
-number-requires : tie.Need-number-requires
-number-requires c κs = search needs
-
--- src/lib.rt:265:9
-refused-text-requires : tie.Need-refused-text-requires
-refused-text-requires c κs = search needs
-
--- src/lib.rt:265:9
-same-length : tie.Need-same-length
-same-length c = search needs
-
--- src/lib.rt:265:9
 returns : tie.Need-returns
-returns c = ?
+returns c =
+    let k = c .before .before .before .before .before in
+    let a = k .before .before .before .args in
+    let h = held (a .bytes .now) (a .marks .now) in
+    rw (long h (a .line .now) (omega arith)) (kept h (rw (c .before .before .before .before .number .ensures) at (c .before .before .refused-text .ensures)))
 
--- src/lib.rt:268:29
-number-requires-2 : tie.Need-number-requires-2
-number-requires-2 c κs = search needs
-
--- src/lib.rt:268:9
-refused-text-requires-2 : tie.Need-refused-text-requires-2
-refused-text-requires-2 c κs = search needs
-
--- src/lib.rt:268:9
-same-length-2 : tie.Need-same-length-2
-same-length-2 c = search needs
-
--- src/lib.rt:268:9
 returns-2 : tie.Need-returns-2
-returns-2 c = ?
+returns-2 c =
+    let k = c .before .before .before .before .before in
+    let a = k .before .before .before .before .args in
+    let h = held (a .bytes .now) (a .marks .now) in
+    rw (brief h (a .line .now) (omega arith)) (kept h (rw (c .before .before .before .before .number2 .ensures) at (c .before .before .refused-text2 .ensures)))
 
--- src/lib.rt:271:41
-sub-read-pairs : tie.Need-sub-read-pairs
-sub-read-pairs c = search needs
-
--- src/lib.rt:271:41
-part-read-pairs-start : tie.Need-part-read-pairs-start
-part-read-pairs-start c = search needs
-
--- src/lib.rt:271:41
-part-read-pairs-end : tie.Need-part-read-pairs-end
-part-read-pairs-end c = search needs
-
--- src/lib.rt:271:59
-slice-aggregate-read-pairs : tie.Need-slice-aggregate-read-pairs
-slice-aggregate-read-pairs c = search needs
-
--- src/lib.rt:271:30
-read-pairs-requires : tie.Need-read-pairs-requires
-read-pairs-requires c κs = search needs
-
--- src/lib.rt:271:25
-enum-known-n : tie.Need-enum-known-n
-enum-known-n c = search needs
-
--- src/lib.rt:272:29
-enum-told : tie.Need-enum-told
-enum-told c = search needs
-
--- src/lib.rt:272:29
-number-requires-3 : tie.Need-number-requires-3
-number-requires-3 c κs = search needs
-
--- src/lib.rt:272:9
-refused-text-requires-3 : tie.Need-refused-text-requires-3
-refused-text-requires-3 c κs = search needs
-
--- src/lib.rt:272:9
-same-length-3 : tie.Need-same-length-3
-same-length-3 c = search needs
-
--- src/lib.rt:272:9
 returns-3 : tie.Need-returns-3
-returns-3 c = ?
+returns-3 c =
+    let k = c .before .before .before .before .before in
+    let p = k .before .before .before in
+    let a = p .before .before .before .before .before .before .before .args in
+    let h = held (a .bytes .now) (a .marks .now) in
+    let i = p .before .before .before .before .if1 .left in
+    rw
+    (unreadable h (a .line .now) (omega arith) (omega arith) (rw (k .enum-told .given .1, behind (a .line .now)) at (p .read-pairs .ensures)))
+    (kept h (rw (c .before .before .before .before .number3 .ensures) at (c .before .before .refused-text3 .ensures)))
 
--- src/lib.rt:274:23
-word-of-requires : tie.Need-word-of-requires
-word-of-requires c κs = search needs
-
--- src/lib.rt:274:38
-sub-say : tie.Need-sub-say
-sub-say c = search needs
-
--- src/lib.rt:274:38
-part-say-start : tie.Need-part-say-start
-part-say-start c = search needs
-
--- src/lib.rt:274:38
 part-say-end : tie.Need-part-say-end
-part-say-end c = ?
+part-say-end c =
+    let k = c .before .before .before .before .before in
+    let p = k .before .before .before in
+    let a = p .before .before .before .before .before .before .before .args in
+    let i = p .before .before .before .before .if1 .left in
+    let r = readable (held (a .bytes .now) (a .marks .now)) (a .line .now) (omega arith) (omega arith) (rw (k .n .given .1, behind (a .line .now)) at (p .read-pairs .ensures)) .0 in
+    omega arith
 
--- src/lib.rt:274:5
-say-requires : tie.Need-say-requires
-say-requires c κs = search needs
-
--- src/lib.rt:256:1
-same-length-4 : tie.Need-same-length-4
-same-length-4 c = search needs
-
--- src/lib.rt:256:1
 returns-4 : tie.Need-returns-4
-returns-4 c = ?
+returns-4 c =
+    let k = c .before .before .before .before .before .before .before .before .before .before in
+    let p = k .before .before .before in
+    let a = p .before .before .before .before .before .before .before .args in
+    let i = p .before .before .before .before .if1 .left in
+    let h = held (a .bytes .now) (a .marks .now) in
+    let r = readable h (a .line .now) (omega arith) (omega arith) (rw (k .n .given .1, behind (a .line .now)) at (p .read-pairs .ensures)) .1 in
+    rw (read-as h (a .line .now) (omega arith) _ r, ← c .before .before .before .before .before .before .word-of .ensures) (c .before .before .say .ensures)
 
 pub dump-spec : {M : Type 1} → statement M
 dump-spec =
     tie.close
     (tie.spec
-    number-requires
-    refused-text-requires
-    same-length
+    (search needs)
+    (search needs)
+    (search needs)
     returns
-    number-requires-2
-    refused-text-requires-2
-    same-length-2
+    (search needs)
+    (search needs)
+    (search needs)
     returns-2
-    sub-read-pairs
-    part-read-pairs-start
-    part-read-pairs-end
-    slice-aggregate-read-pairs
-    read-pairs-requires
-    enum-known-n
-    enum-told
-    number-requires-3
-    refused-text-requires-3
-    same-length-3
+    (search needs)
+    (search needs)
+    (search needs)
+    (search needs)
+    (search needs)
+    (search needs)
+    (search needs)
+    (search needs)
+    (search needs)
+    (search needs)
     returns-3
-    word-of-requires
-    sub-say
-    part-say-start
+    (search needs)
+    (search needs)
+    (search needs)
     part-say-end
-    say-requires
-    same-length-4
+    (search needs)
+    (search needs)
     returns-4)

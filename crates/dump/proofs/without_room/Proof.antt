@@ -1,53 +1,40 @@
 use borrow.Author.Needs.{needs}
+use native.Mathlib.Omega.{arith}
+use lib.ListN.{length}
+use Rattle.base.proofs.written.Laws.{lacking}
+use Rattle.collector.specs.Collector.{taking}
+use Rattle.collector.specs.Shape.{held}
+use Rattle.texts.specs.Texts.{blockText}
+use Rattle.dump.proofs.Laws.{gave, refused-it, text-refused, text-taken}
 use Rattle.dump.proofs.without_room.Statement.{statement}
 use Rattle.dump.proofs.without_room.Tie as tie
-use Rattle.dump.proofs.without_room.Reads as reads
-use Rattle.dump.proofs.without_room.Lts as lts
-use Rattle.base.proofs.refusal.Refusal.number.Reads as number-reads
-use Rattle.collector.proofs.answer_in.Reads as answer-in-reads
-use Rattle.texts.proofs.refused_text.Reads as refused-text-reads
 
--- src/lib.rt:178:9
-answer-in-requires : tie.Need-answer-in-requires
-answer-in-requires c κs = search needs
-
--- src/lib.rt:180:47
-enum-told : tie.Need-enum-told
-enum-told c = search needs
-
--- src/lib.rt:181:26
-enum-known-verdict : tie.Need-enum-known-verdict
-enum-known-verdict c = search needs
-
--- src/lib.rt:181:51
-number-requires : tie.Need-number-requires
-number-requires c κs = search needs
-
--- src/lib.rt:181:38
-refused-text-requires : tie.Need-refused-text-requires
-refused-text-requires c κs = search needs
-
--- src/lib.rt:166:1
 returns : tie.Need-returns
-returns c = ?
+returns c =
+    let v = c .before .before in
+    let a = v .before .before .before .before .before .before .before .args in
+    let h = held (a .bytes .now) (a .marks .now) in
+    text-taken h (a .index) (a .response .now) _ (gave (taking h (a .index) (a .response .now)) (v .answer-in .ensures) (c .enum-told .given .1))
+    (lacking (blockText (a .index) (length (a .response .now))) (a .out .now) (omega arith))
 
--- src/lib.rt:166:1
-same-length : tie.Need-same-length
-same-length c = search needs
-
--- src/lib.rt:166:1
 returns-2 : tie.Need-returns-2
-returns-2 c = ?
+returns-2 c =
+    let k = c .before .before .before .before .before .before in
+    let v = k .before .before in
+    let a = v .before .before .before .before .before .before .before .args in
+    let h = held (a .bytes .now) (a .marks .now) in
+    text-refused h (a .index) (a .response .now) (k .verdict .given .0 .0) (refused-it (taking h (a .index) (a .response .now)) _ (v .answer-in .ensures) (k .verdict .given .1) .0)
+    (rw (c .before .before .before .before .number .ensures) at (c .before .before .refused-text .ensures))
 
 pub without-room-spec : {M : Type 1} → statement M
 without-room-spec =
     tie.close
     (tie.spec
-    answer-in-requires
-    enum-told
-    enum-known-verdict
-    number-requires
-    refused-text-requires
+    (search needs)
+    (search needs)
+    (search needs)
+    (search needs)
+    (search needs)
     returns
-    same-length
+    (search needs)
     returns-2)
