@@ -14,7 +14,7 @@ use Rattle.base.specs.Outcome.{Outcome, accepted, refused, _>>=_}
 use Rattle.base.specs.Text.{digit}
 use Rattle.base.specs.Verdict.{recordOf}
 use Rattle.base.proofs.Outcome.{apart, steps, Only, only-steps, only-refused}
-use Rattle.lines.specs.Lines.{decimal, digitOf, digits, isAccepted, lineLength, newline, pairOf, pairsOf, space}
+use Rattle.lines.specs.Lines.{decimal, digitOf, digits, isAccepted, lineLength, newline, newlineFrom, pairOf, pairsOf, space}
 
 no : {A : Type 0} → false ≡ true → A
 no e = let z : _≡_ {A = ℕ} 0 1 = cc in absurd (omega arith)
@@ -262,3 +262,18 @@ module _ (block : List ℕ) (i : ℕ) (h : i < length block) where
 pub no-more : (block : List ℕ) (i : ℕ) → i ≡ length block → lineLength (drop i block) ≡ 0
 unfolding lineLength
 no-more block i e = rw (e, drop-length block)
+
+line-within : (l : List ℕ) → lineLength l ≤ length l
+unfolding lineLength
+line-within [] = omega arith
+line-within (x ∷ l) = go (eqb x newline) (line-within l)
+  where
+    go : (b : Bool) → lineLength l ≤ length l → (if b then 0 else suc (lineLength l)) ≤ suc (length l)
+    go true h = omega arith
+    go false h = omega arith
+
+pub newline-within : (block : List ℕ) (at : ℕ) → at ≤ length block → (at ≤ newlineFrom block at) × (newlineFrom block at ≤ length block)
+newline-within block at h =
+    let w = line-within (drop at block) in
+    let d = length-drop at block in
+    rw (le-ltb (length block) at h) (omega arith, omega arith)
