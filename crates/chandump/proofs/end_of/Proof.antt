@@ -1,17 +1,18 @@
 use borrow.Author.Needs.{needs}
+use native.Mathlib.Omega.{arith}
+use Rattle.lines.proofs.Laws.{newline-within}
 use Rattle.chandump.proofs.end_of.Statement.{statement}
 use Rattle.chandump.proofs.end_of.Tie as tie
-use Rattle.chandump.proofs.end_of.Reads as reads
-use Rattle.chandump.proofs.end_of.Lts as lts
-use Rattle.lines.proofs.newline_from.Reads as newline-from-reads
 
--- src/main.rt:177:5
-newline-from-requires : tie.Need-newline-from-requires
-newline-from-requires c κs = search needs
-
--- src/main.rt:173:1
 returns : tie.Need-returns
-returns c = ?
+returns c =
+    let a = c .before .before .args in
+    let w = newline-within (a .block .now) (a .at) (omega arith) in
+    rw (c .newline-from .ensures) w
 
 pub end-of-spec : {M : Type 1} → statement M
-end-of-spec = tie.close (tie.spec newline-from-requires returns)
+end-of-spec =
+    tie.close
+    (tie.spec
+    (search needs)
+    returns)
