@@ -1,0 +1,19 @@
+-- Any two outcomes that a public function's promise allows at the same arguments coincide.
+use mathlib.Core.Path.{_≡_}
+use mathlib.Core.List.{List}
+use Prim.Native.Nat.{ℕ}
+use Rattle.base.specs.declared.written.Written.{Written}
+use Rattle.base.proofs.Said.{written-one}
+use Rattle.base.proofs.Unique.{Unique, both}
+use Rattle.collector.specs.declared.Collector.{Collector}
+use Rattle.dump.specs.Dump.{Answer, Answers}
+use Rattle.dump.proofs as p
+
+-- the answer, the buffer and the collector are fixed, and so is what is made of them
+pub answered : {X : Type 0} (make : Written → List ℕ → Collector → X) {answer : Answer} {r r′ : Written} {before after after′ : List ℕ} {collector left left′ : Collector}
+    → Answers answer r before after collector left → Answers answer r′ before after′ collector left′ → make r after left ≡ make r′ after′ left′
+answered make {answer} {r} {r′} q q′ =
+    rw (written-one r r′ (both (q .writes .answers) (q′ .writes .answers)), both (q .writes .leaves) (q′ .writes .leaves), both (q .leaves) (q′ .leaves))
+
+pub dump-unique : Unique p.dump.Kinds.ps p.dump.Kinds.r p.dump.Reads.Asked p.dump.Reads.Learnt
+dump-unique κs a ok z z′ w w′ q q′ = (answered (λ r after left. r) q q′, answered (λ r after left. (left .bytes, (left .marks, (tt, (after, tt))))) q q′)

@@ -1,0 +1,31 @@
+use borrow.Author.Needs.{needs}
+use Rattle.collector.specs.Shape.{held}
+use Rattle.dump.proofs.Laws.{end-unwritten, end-written}
+use Rattle.dump.proofs.end.Statement.{statement}
+use Rattle.dump.proofs.end.Tie as tie
+
+returns : tie.Need-returns
+returns c =
+    let k = c .before .before .before in
+    let l = k .before .before .before .before in
+    let a = l .before .before .before .before .before .args in
+    end-written (held (a .bytes .now) (a .marks .now)) (rw (k .written .given .1) at (l .list .ensures))
+
+returns-2 : tie.Need-returns-2
+returns-2 c =
+    let k = c .before in
+    let l = k .before .before .before .before in
+    let a = l .before .before .before .before .before .args in
+    end-unwritten (held (a .bytes .now) (a .marks .now)) (rw (k .written2 .given .1) at (l .list .ensures))
+
+pub end-spec : {M : Type 1} → statement M
+end-spec =
+    tie.close
+    (tie.spec
+    (search needs)
+    (search needs)
+    (search needs)
+    (search needs)
+    returns
+    (search needs)
+    returns-2)

@@ -1,0 +1,283 @@
+// chandump but for reading and writing: a line and a collector in, the answering line and the collector out.
+ghost use Prim.Native.Nat.{_<_, _≤_};
+ghost use mathlib.Core.Path.{_≡_};
+ghost use lib.ListN.{length};
+ghost use Rattle.auth.specs.GetChannelAuthenticationCapabilities.{bestAuth, capabilitiesOf};
+ghost use Rattle.base.specs.Outcome.{accepted};
+ghost use Rattle.base.specs.Written.{Writes};
+ghost use Rattle.channel.specs.GetChannelAccess.{accessOf};
+ghost use Rattle.collector.specs.Collector.{capacity, listOf};
+ghost use Rattle.collector.specs.Shape.{held};
+ghost use Rattle.info.specs.GetChannelInfo.{infoOf};
+ghost use Rattle.suites.specs.GetChannelCipherSuites.{numbersOf};
+ghost use Rattle.texts.specs.Texts.{accessText, authText, blockText, infoText, suitesText};
+ghost use Rattle.dump.specs.Dump.{Answers, answering, begins, ending, heard, listText, saying, shown, wordOf};
+use auth::get_channel_authentication_capabilities::ChannelAuthenticationCapabilities;
+use base::refusal::Refusal;
+use base::verdict::Verdict;
+use base::written::Written;
+use base::written::place;
+use channel::get_channel_access::AccessAnswer;
+use channel::get_channel_access::ChannelAccess;
+use collector::Collector;
+use collector::Status;
+use collector::answer_in;
+use collector::status_in;
+use info::get_channel_info::ChannelInfo;
+use info::get_channel_info::InfoAnswer;
+use lines::read_pairs;
+use suites::get_channel_cipher_suites::suite_numbers;
+use texts::access_text;
+use texts::auth_text;
+use texts::block_text;
+use texts::info_text;
+use texts::missing_text;
+use texts::refused_text;
+use texts::suites_text;
+
+// A line is at most so long.
+const LONGEST: usize = 256;
+
+const LETTERS: usize = 3;
+
+// More pairs than the longest line has.
+const PAIRS: usize = 96;
+
+// More than the text of an accepted part takes.
+const BLOCK: usize = 64;
+
+enum Word {
+    Inf,
+    Acc,
+    Cap,
+    Sui,
+    End,
+    Other,
+}
+
+fn begins(word: [u8; LETTERS], line: &[u8]) -> bool
+    ensures { λ r. ⌜ r ≡ begins word (now (line .entry)) ⌝ }
+{
+    if line.len() < LETTERS {
+        return false;
+    }
+    if line[0] != word[0] {
+        return false;
+    }
+    if line[1] != word[1] {
+        return false;
+    }
+    line[2] == word[2]
+}
+
+fn word_of(line: &[u8]) -> Word
+    ensures { λ r. ⌜ r ≡ wordOf (now (line .entry)) ⌝ }
+{
+    if begins(*b"inf", line) {
+        return Word::Inf;
+    }
+    if begins(*b"acc", line) {
+        return Word::Acc;
+    }
+    if begins(*b"cap", line) {
+        return Word::Cap;
+    }
+    if begins(*b"sui", line) {
+        return Word::Sui;
+    }
+    if begins(*b"end", line) {
+        return Word::End;
+    }
+    Word::Other
+}
+
+fn info(response: &[u8], out: &mut [u8]) -> Written
+    ensures { λ r. ⌜ Writes (accepted (shown infoText (infoOf (now (response .entry))))) r (now (out .entry)) (now (out .exit)) ⌝ }
+{
+    let InfoAnswer::Info(info) = ChannelInfo::parse(response) else {
+        return refused_text(Refusal::NotEnoughData.number(), out);
+    };
+    info_text(info, out)
+}
+
+fn access(response: &[u8], out: &mut [u8]) -> Written
+    ensures { λ r. ⌜ Writes (accepted (shown accessText (accessOf (now (response .entry))))) r (now (out .entry)) (now (out .exit)) ⌝ }
+{
+    let AccessAnswer::Access(access) = ChannelAccess::parse(response) else {
+        return refused_text(Refusal::NotEnoughData.number(), out);
+    };
+    access_text(access, out)
+}
+
+fn capabilities(response: &[u8], out: &mut [u8]) -> Written
+    ensures { λ r. ⌜ Writes (accepted (shown (λ c. authText (bestAuth c)) (capabilitiesOf (now (response .entry))))) r (now (out .entry)) (now (out .exit)) ⌝ }
+{
+    let answer = ChannelAuthenticationCapabilities::parse(response);
+    let verdict = answer.verdict;
+    let capabilities = answer.capabilities;
+    match verdict {
+        Verdict::Accepted => auth_text(capabilities.best_auth(), out),
+        Verdict::Refused(refusal) => refused_text(refusal.number(), out),
+    }
+}
+
+fn suites(list: &[u8], out: &mut [u8]) -> Written
+    requires { ⌜ length (now list) ≤ capacity ⌝ }
+    ensures { λ r. ⌜ Writes (accepted (suitesText (numbersOf (now (list .entry))))) r (now (out .entry)) (now (out .exit)) ⌝ }
+{
+    let mut numbers = [0u8; Collector::CAPACITY];
+    let Written::Length(n) = suite_numbers(list, &mut numbers) else {
+        return Written::Refused(Refusal::NoRoom);
+    };
+    suites_text(&numbers[0..n], out)
+}
+
+// The suites of the list, or what is missing of it.
+fn list(
+    bytes: &[u8; Collector::CAPACITY],
+    marks: &[u8; Collector::PARTS],
+    out: &mut [u8],
+) -> Written
+    ensures { λ r. ⌜ Writes (accepted (listText (listOf (held (now (bytes .entry)) (now (marks .entry)))))) r (now (out .entry)) (now (out .exit)) ⌝ }
+{
+    let status = status_in(bytes, marks);
+    match status {
+        Status::Complete(length) => {
+            let all = &bytes[..];
+            suites(&all[0..length], out)
+        }
+        Status::Missing(index) => missing_text(index, out),
+        Status::NoForm => refused_text(Refusal::NoForm.number(), out),
+    }
+}
+
+// The collector starts afresh once its text is written.
+fn end(
+    bytes: &mut [u8; Collector::CAPACITY],
+    marks: &mut [u8; Collector::PARTS],
+    out: &mut [u8],
+) -> Written
+    ensures { λ r. ⌜ Answers (ending (held (now (bytes .entry)) (now (marks .entry)))) r (now (out .entry)) (now (out .exit)) (held (now (bytes .entry)) (now (marks .entry))) (held (now (bytes .exit)) (now (marks .exit))) ⌝ }
+{
+    let written = list(bytes, marks, out);
+    match written {
+        Written::Length(n) => {
+            *bytes = [0; Collector::CAPACITY];
+            *marks = [0; Collector::PARTS];
+            Written::Length(n)
+        }
+        Written::Refused(refusal) => Written::Refused(refusal),
+    }
+}
+
+// The answer where the text of an accepted part has no room: tried on a copy.
+fn without_room(
+    bytes: &[u8; Collector::CAPACITY],
+    marks: &[u8; Collector::PARTS],
+    index: u8,
+    response: &[u8],
+    out: &mut [u8],
+) -> Written
+    requires { ⌜ length (now out) < length (blockText index (length (now response))) ⌝ }
+    ensures { λ r. ⌜ Writes (accepted (heard (held (now (bytes .entry)) (now (marks .entry))) index (now (response .entry)) .text)) r (now (out .entry)) (now (out .exit)) ⌝ }
+{
+    let mut bytes = *bytes;
+    let mut marks = *marks;
+    let verdict = answer_in(&mut bytes, &mut marks, index, response);
+    match verdict {
+        Verdict::Accepted => Written::Refused(Refusal::NoRoom),
+        Verdict::Refused(refusal) => refused_text(refusal.number(), out),
+    }
+}
+
+fn hear(
+    bytes: &mut [u8; Collector::CAPACITY],
+    marks: &mut [u8; Collector::PARTS],
+    index: u8,
+    response: &[u8],
+    out: &mut [u8],
+) -> Written
+    ensures { λ r. ⌜ Answers (heard (held (now (bytes .entry)) (now (marks .entry))) index (now (response .entry))) r (now (out .entry)) (now (out .exit)) (held (now (bytes .entry)) (now (marks .entry))) (held (now (bytes .exit)) (now (marks .exit))) ⌝ }
+{
+    let mut text = [0u8; BLOCK];
+    let Written::Length(n) = block_text(index, response.len(), &mut text) else {
+        return Written::Refused(Refusal::NoRoom);
+    };
+    if out.len() < n {
+        return without_room(bytes, marks, index, response, out);
+    }
+    let verdict = answer_in(bytes, marks, index, response);
+    match verdict {
+        Verdict::Accepted => place(&text[0..n], out),
+        Verdict::Refused(refusal) => refused_text(refusal.number(), out),
+    }
+}
+
+fn hear_pairs(
+    bytes: &mut [u8; Collector::CAPACITY],
+    marks: &mut [u8; Collector::PARTS],
+    pairs: &[u8],
+    out: &mut [u8],
+) -> Written
+    ensures { λ r. ⌜ Answers (saying (held (now (bytes .entry)) (now (marks .entry))) Word.Sui (now (pairs .entry))) r (now (out .entry)) (now (out .exit)) (held (now (bytes .entry)) (now (marks .entry))) (held (now (bytes .exit)) (now (marks .exit))) ⌝ }
+{
+    if pairs.len() == 0 {
+        return refused_text(Refusal::BadLine.number(), out);
+    }
+    hear(bytes, marks, pairs[0], &pairs[1..], out)
+}
+
+fn end_pairs(
+    bytes: &mut [u8; Collector::CAPACITY],
+    marks: &mut [u8; Collector::PARTS],
+    pairs: &[u8],
+    out: &mut [u8],
+) -> Written
+    ensures { λ r. ⌜ Answers (saying (held (now (bytes .entry)) (now (marks .entry))) Word.End (now (pairs .entry))) r (now (out .entry)) (now (out .exit)) (held (now (bytes .entry)) (now (marks .entry))) (held (now (bytes .exit)) (now (marks .exit))) ⌝ }
+{
+    if pairs.len() != 0 {
+        return refused_text(Refusal::BadLine.number(), out);
+    }
+    end(bytes, marks, out)
+}
+
+fn say(
+    bytes: &mut [u8; Collector::CAPACITY],
+    marks: &mut [u8; Collector::PARTS],
+    word: Word,
+    pairs: &[u8],
+    out: &mut [u8],
+) -> Written
+    ensures { λ r. ⌜ Answers (saying (held (now (bytes .entry)) (now (marks .entry))) word (now (pairs .entry))) r (now (out .entry)) (now (out .exit)) (held (now (bytes .entry)) (now (marks .entry))) (held (now (bytes .exit)) (now (marks .exit))) ⌝ }
+{
+    match word {
+        Word::Inf => info(pairs, out),
+        Word::Acc => access(pairs, out),
+        Word::Cap => capabilities(pairs, out),
+        Word::Sui => hear_pairs(bytes, marks, pairs, out),
+        Word::End => end_pairs(bytes, marks, pairs, out),
+        Word::Other => refused_text(Refusal::BadLine.number(), out),
+    }
+}
+
+// The answer to a line at the start of out, without a newline, and the collector behind the line.
+pub fn dump(
+    bytes: &mut [u8; Collector::CAPACITY],
+    marks: &mut [u8; Collector::PARTS],
+    line: &[u8],
+    out: &mut [u8],
+) -> Written
+    ensures { λ r. ⌜ Answers (answering (held (now (bytes .entry)) (now (marks .entry))) (now (line .entry))) r (now (out .entry)) (now (out .exit)) (held (now (bytes .entry)) (now (marks .entry))) (held (now (bytes .exit)) (now (marks .exit))) ⌝ }
+{
+    if LONGEST < line.len() {
+        return refused_text(Refusal::BadLine.number(), out);
+    }
+    if line.len() < LETTERS {
+        return refused_text(Refusal::BadLine.number(), out);
+    }
+    let mut pairs = [0u8; PAIRS];
+    let Written::Length(n) = read_pairs(&line[LETTERS..], &mut pairs) else {
+        return refused_text(Refusal::BadLine.number(), out);
+    };
+    say(bytes, marks, word_of(line), &pairs[0..n], out)
+}

@@ -1,0 +1,19 @@
+use borrow.Author.Needs.{needs}
+use Rattle.lines.proofs.pair_byte.Statement.{statement}
+use Rattle.lines.proofs.pair_byte.Tie as tie
+
+returns : tie.Need-returns
+returns c = let k = c .before .before in simp (← k .pair-value .ensures, c .enum-told .given .1)
+
+returns-2 : tie.Need-returns-2
+returns-2 c = let k = c .before .before .before in simp (← k .pair-value .ensures, c .before .byte .given .1)
+
+pub pair-byte-spec : {M : Type 1} → statement M
+pair-byte-spec =
+    tie.close
+    (tie.spec
+    (search needs)
+    (search needs)
+    (search needs)
+    returns
+    returns-2)
