@@ -1,1 +1,2 @@
 pub mod Dump
+pub mod Input

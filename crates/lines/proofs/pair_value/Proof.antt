@@ -8,18 +8,18 @@ use Rattle.lines.proofs.pair_value.Statement.{statement}
 use Rattle.lines.proofs.pair_value.Tie as tie
 
 returns : tie.Need-returns
-returns c = simp (ne-eqb (c .before .args .before) 0x20 (c .if1 .taken))
+returns c = simp (ne-eqb (c .before .args .before) 0x20 (λ z. omega arith))
 
 returns-2 : tie.Need-returns-2
 returns-2 c =
     let k = c .before .before in
-    simp (eq-eqb (k .before .before .args .before) 0x20 (k .before .if1 .left), ← k .digit-value .ensures, c .enum-told .given .1)
+    simp (eq-eqb (k .before .before .args .before) 0x20 (omega arith), ← k .digit-value .ensures, c .enum-told .given .1)
 
 returns-3 : tie.Need-returns-3
 returns-3 c =
     let k = c .before .before .before .before .before .before in
     simp
-    (eq-eqb (k .before .before .args .before) 0x20 (k .before .if1 .left), ← k .digit-value .ensures, c .before .before .before .before .high .given .1, ← c .before .before .digit-value2 .ensures, c .enum-told2 .given .1)
+    (eq-eqb (k .before .before .args .before) 0x20 (omega arith), ← k .digit-value .ensures, c .before .before .before .before .high .given .1, ← c .before .before .digit-value2 .ensures, c .enum-told2 .given .1)
 
 mul-t9 : tie.Need-mul-t9
 mul-t9 c =
@@ -43,7 +43,7 @@ returns-4 c =
     let k = h .before .before in
     let l = c .before .before .before in
     simp
-    (eq-eqb (k .before .before .args .before) 0x20 (k .before .if1 .left), ← k .digit-value .ensures, h .high .given .1, ← l .digit-value2 .ensures, c .before .low .given .1)
+    (eq-eqb (k .before .before .args .before) 0x20 (omega arith), ← k .digit-value .ensures, h .high .given .1, ← l .digit-value2 .ensures, c .before .low .given .1)
 
 pub pair-value-spec : {M : Type 1} → statement M
 pair-value-spec =
