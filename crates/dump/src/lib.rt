@@ -133,7 +133,11 @@ fn suites(list: &[u8], out: &mut [u8]) -> Written
 }
 
 // The suites of the list, or what is missing of it.
-fn list(bytes: &[u8; Collector::CAPACITY], marks: &[u8; Collector::PARTS], out: &mut [u8]) -> Written
+fn list(
+    bytes: &[u8; Collector::CAPACITY],
+    marks: &[u8; Collector::PARTS],
+    out: &mut [u8],
+) -> Written
     ensures { λ r. ⌜ Writes (accepted (listText (listOf (held (now (bytes .entry)) (now (marks .entry)))))) r (now (out .entry)) (now (out .exit)) ⌝ }
 {
     let status = status_in(bytes, marks);
@@ -148,7 +152,11 @@ fn list(bytes: &[u8; Collector::CAPACITY], marks: &[u8; Collector::PARTS], out: 
 }
 
 // The collector starts afresh once its text is written.
-fn end(bytes: &mut [u8; Collector::CAPACITY], marks: &mut [u8; Collector::PARTS], out: &mut [u8]) -> Written
+fn end(
+    bytes: &mut [u8; Collector::CAPACITY],
+    marks: &mut [u8; Collector::PARTS],
+    out: &mut [u8],
+) -> Written
     ensures { λ r. ⌜ Answers (ending (held (now (bytes .entry)) (now (marks .entry)))) r (now (out .entry)) (now (out .exit)) (held (now (bytes .entry)) (now (marks .entry))) (held (now (bytes .exit)) (now (marks .exit))) ⌝ }
 {
     let written = list(bytes, marks, out);

@@ -218,7 +218,7 @@ another text rest at all p q l e =
     let k′ : at - 1 < length (set text (at - 1) d) = rw length-set k in
     let s : suc (at - 1) ≡ at = omega arith in
     let x : drop (at - 1) (set text (at - 1) d) ≡ d ∷ drop at text =
-        drop-cons (set text (at - 1) d) (at - 1) 0 k′ ∙ rw (getD-set-same text (at - 1) d 0 k, s, drop-set-lt at text (at - 1) d (omega arith)) in
+    drop-cons (set text (at - 1) d) (at - 1) 0 k′ ∙ rw (getD-set-same text (at - 1) d 0 k, s, drop-set-lt at text (at - 1) d (omega arith)) in
     let f : front rest ≡ decimal rest = simp (ne-eqb rest 0 (λ z. omega arith)) in
     rw x (sym (append-assoc (front (rest / 10)) (d ∷ []) (drop at text)) ∙ ap (λ x. x ++ drop at text) (last-digit rest ∙ sym f) ∙ e)
 

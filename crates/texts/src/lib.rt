@@ -202,7 +202,12 @@ fn access_states(access: ChannelAccess, into: &mut [u8], at: usize) -> usize
 {
     let first = put_state(b", alerting ", access.alerting_disabled, into, at);
     let second = put_state(b", per-message ", access.per_msg_auth_disabled, into, first);
-    put_state(b", user-level ", access.user_level_auth_disabled, into, second)
+    put_state(
+        b", user-level ",
+        access.user_level_auth_disabled,
+        into,
+        second,
+    )
 }
 
 pub fn access_text(access: ChannelAccess, out: &mut [u8]) -> Written
