@@ -1,5 +1,5 @@
 -- Document 01, "Examples at the edges", those marked P: rows of a table under one claim.
-use mathlib.Core.Path.{_≡_, refl}
+use mathlib.Core.Path.{_≡_}
 use Prim.Native.Nat.{ℕ}
 use mathlib.Core.Bool.{false}
 use mathlib.Core.List.{List, [], _∷_, _++_, map}

@@ -10,7 +10,6 @@ use Rattle.base.specs.Choice.{if_then_else_}
 use Rattle.base.specs.Text.{ascii}
 use Rattle.collector.specs.Collector.{fresh}
 use Rattle.lines.specs.Lines.{lineLength, newline}
-use Rattle.dump.specs.Dump.{answering}
 use Rattle.dump.specs.Input.{Line, Lines, answersFrom, joined, lastLine, linesFrom, linesOf, outputOf}
 
 -- what is known of a line's first byte, and of the others

@@ -1,7 +1,7 @@
 -- The program lends 1,024 bytes for each answer: no answer is longer.
 use Prim.Native.Nat.{ℕ, zero, suc, _+_, _*_, _≤_, _<_}
 use mathlib.Core.Bool.{Bool, true, false}
-use mathlib.Core.List.{List, [], _∷_, _++_}
+use mathlib.Core.List.{List, [], _∷_}
 use mathlib.Core.Option.{Option, none, some}
 use mathlib.Core.Path.{_≡_, refl}
 use native.Mathlib.Omega.{arith}
@@ -19,7 +19,7 @@ use Rattle.base.specs.Verdict.{recordOf}
 use Rattle.base.specs.declared.connection.Channel.{Channel}
 use Rattle.channel.specs.GetChannelAccess.{accessFields, accessOf}
 use Rattle.channel.specs.declared.get_channel_access.ChannelAccess.{ChannelAccess}
-use Rattle.collector.specs.Collector.{complete, holds, isComplete, joining, lastIndex, leastTo, listBy, listOf, lowest, missing, partLength, parts, put, taking, wellFormed}
+use Rattle.collector.specs.Collector.{complete, holds, isComplete, lastIndex, leastTo, listBy, listOf, lowest, missing, partLength, parts, put, taking, wellFormed}
 use Rattle.collector.specs.Histories.{Held, IsBytes}
 use Rattle.collector.specs.declared.Collector.{Collector}
 use Rattle.collector.proofs.Asking.{take-bytes}

@@ -7,8 +7,8 @@ use native.Mathlib.Omega.{arith}
 use native.Mathlib.Numerals.{add-one}
 use borrow.Author.Tests.{ltb-true, ltb-false, eqb-true, eqb-false, lt-ltb, le-ltb, eq-eqb, ne-eqb}
 use lib.Dec.{eqb, ltb}
-use lib.ListN.{length, getD, take, drop, set, length-append, length-drop, length-set}
-use lib.Seq.{drop-cons, drop-length, getD-set-same, drop-set-lt, take-all}
+use lib.ListN.{length, getD, drop, set, length-append, length-drop, length-set}
+use lib.Seq.{drop-cons, drop-length, getD-set-same, drop-set-lt}
 use Rattle.base.specs.Choice.{if_then_else_, if_from_to_then_else_}
 use Rattle.base.specs.Outcome.{Outcome, accepted, refused, _>>=_}
 use Rattle.base.specs.Text.{digit}

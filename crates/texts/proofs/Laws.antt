@@ -1,16 +1,16 @@
 -- Laws of a text that is built a piece at a time.
-use mathlib.Core.Path.{_≡_, refl, sym, _∙_, ap}
+use mathlib.Core.Path.{_≡_, refl, sym, _∙_}
 use mathlib.Core.Bool.{Bool, true, false}
 use mathlib.Core.List.{List, [], _∷_, _++_, append-assoc, append-nil}
-use Prim.Native.Nat.{ℕ, zero, suc, _+_, _-_, _*_, _/_, _%_, _≤_, _<_}
+use Prim.Native.Nat.{ℕ, suc, _+_, _-_, _≤_, _<_}
 use native.Mathlib.Numerals.{add-one}
 use native.Mathlib.Omega.{arith}
 use borrow.Author.Tests.{ltb-true, ltb-false, lt-ltb, le-ltb}
-use borrow.Rule.Slice.PartMut.{midOf, putMid, same-len-mid, mid-len}
+use borrow.Rule.Slice.PartMut.{midOf, putMid, mid-len}
 use lib.Dec.{ltb}
 use lib.ListN.{length, getD, take, drop, take-append-drop, length-append, length-drop, drop-of-length-le}
-use lib.Seq.{take-suc, drop-cons, drop-length, length-take-le, take-all, take-at, drop-at, drop-drop, drop-append-add, take-append-add, take-append-seam}
-use Rattle.base.specs.Outcome.{accepted, refused}
+use lib.Seq.{take-suc, drop-cons, drop-length, length-take-le, take-all, take-at, drop-at, drop-drop}
+use Rattle.base.specs.Outcome.{accepted}
 use Rattle.base.specs.Text.{ascii}
 use Rattle.base.specs.Written.{Writes, written, lengthOf, over, saidWritten}
 use Rattle.base.specs.declared.written.Written.{Written}

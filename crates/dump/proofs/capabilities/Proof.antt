@@ -1,5 +1,5 @@
 use borrow.Author.Needs.{needs}
-use Rattle.auth.specs.GetChannelAuthenticationCapabilities.{bestAuth, capabilitiesOf}
+use Rattle.auth.specs.GetChannelAuthenticationCapabilities.{capabilitiesOf}
 use Rattle.dump.proofs.Laws.{best, gave, refused-it}
 use Rattle.dump.proofs.capabilities.Statement.{statement}
 use Rattle.dump.proofs.capabilities.Tie as tie

@@ -1,8 +1,5 @@
 use borrow.Author.Needs.{needs}
 use native.Mathlib.Omega.{arith}
-use mathlib.Core.Path.{sym, _∙_}
-use lib.ListN.{take, drop}
-use Prim.Native.Nat.{_-_}
 use Rattle.collector.specs.Shape.{held}
 use Rattle.dump.proofs.Laws.{behind, brief, kept, long, read-as, readable, unreadable}
 use Rattle.dump.proofs.dump.Statement.{statement}

@@ -1,5 +1,4 @@
 use borrow.Author.Needs.{needs}
-use native.Mathlib.Omega.{arith}
 use Rattle.collector.specs.Shape.{held}
 use Rattle.dump.proofs.Laws.{end, kept, no-end}
 use Rattle.dump.proofs.end_pairs.Statement.{statement}

@@ -1,10 +1,8 @@
 use borrow.Author.Needs.{needs}
 use native.Mathlib.Omega.{arith}
-use mathlib.Core.Path.{ap, _∙_, sym}
 use lib.ListN.{length}
 use Rattle.collector.specs.Collector.{taking}
 use Rattle.collector.specs.Shape.{held}
-use Rattle.texts.specs.Texts.{blockText}
 use Rattle.dump.proofs.Laws.{as-long, block-fits, gave, heard-refused, heard-taken, never, refused-it, stands, unroomed}
 use Rattle.dump.proofs.hear.Statement.{statement}
 use Rattle.dump.proofs.hear.Tie as tie

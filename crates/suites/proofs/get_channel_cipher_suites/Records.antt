@@ -2,10 +2,10 @@
 use mathlib.Core.Path.{_≡_, refl, sym, _∙_, ap}
 use mathlib.Core.Bool.{Bool, true, false}
 use mathlib.Core.List.{List, [], _∷_}
-use mathlib.Core.Option.{Option, none, some}
+use mathlib.Core.Option.{none, some}
 use Prim.Native.Nat.{ℕ, zero, suc, _+_, _-_, _*_, _≤_, _<_}
 use native.Mathlib.Omega.{arith}
-use borrow.Author.Tests.{ltb-true, lt-ltb}
+use borrow.Author.Tests.{ltb-true}
 use denote.Ref.{now}
 use lib.Dec.{eqb, ltb}
 use lib.ListN.{length, getD}
@@ -15,7 +15,6 @@ use Rattle.suites.specs.GetChannelCipherSuites.{algorithms, before, give
 use Rattle.suites.specs.declared.get_channel_cipher_suites.CipherSuite.{CipherSuite}
 use Rattle.suites.specs.declared.get_channel_cipher_suites.Iter.{Iter}
 use Rattle.suites.specs.declared.get_channel_cipher_suites.Step.{Step}
-use Rattle.suites.specs.declared.get_channel_cipher_suites.SuiteAnswer.{SuiteAnswer}
 use Rattle.suites.specs.declared.get_channel_cipher_suites.SuiteAnswer.the-variants.{Suite, Nothing}
 
 -- it takes a record's five bytes and gives the suite of the second, or it gives nothing

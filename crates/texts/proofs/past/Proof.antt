@@ -1,6 +1,6 @@
 use borrow.Author.Needs.{needs}
 use native.Mathlib.Omega.{arith}
-use mathlib.Core.Path.{_≡_, ap}
+use mathlib.Core.Path.{ap}
 use Rattle.texts.specs.Appends.{wrote}
 use Rattle.texts.proofs.past.Statement.{statement}
 use Rattle.texts.proofs.past.Tie as tie

@@ -1,12 +1,10 @@
 use borrow.Author.Needs.{needs}
 use borrow.Author.Tests.{ltb-true, ltb-false}
-use mathlib.Core.Path.{_≡_, refl, sym, ap, _∙_}
-use mathlib.Core.List.{_++_}
+use mathlib.Core.Path.{_≡_, sym, ap, _∙_}
 use Prim.Native.Nat.{_+_, _-_, _≤_}
 use native.Mathlib.Omega.{arith}
 use lib.ListN.{length, drop, take}
 use lib.Seq.{take-all}
-use Rattle.base.specs.Text.{ascii}
 use Rattle.base.proofs.written.Laws.{lacking}
 use Rattle.texts.specs.Appends.{Appends}
 use Rattle.texts.specs.Texts.{spaced, suitesText}

@@ -1,6 +1,4 @@
 use borrow.Author.Tests.{lt-ltb, le-ltb}
-use mathlib.Core.Path.{sym, ap}
-use Prim.Native.Nat.{suc}
 use native.Mathlib.Omega.{arith}
 use Rattle.lines.proofs.Laws.{decimal-digits}
 use Rattle.texts.proofs.width.Statement.{statement}
