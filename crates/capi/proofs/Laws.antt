@@ -1,17 +1,15 @@
 -- What an answer comes to as a number.
-use mathlib.Core.Path.{_≡_, refl, sym, _∙_, ap}
+use mathlib.Core.Path.{_≡_, refl, _∙_, ap}
 use mathlib.Core.List.{List}
 use Prim.Native.Nat.{ℕ}
 use Rattle.base.specs.Outcome.{Outcome, accepted, refused}
 use Rattle.base.specs.Refusal.{refusal}
-use Rattle.base.specs.Verdict.{Gives, recordOf, saidVerdict, verdictOf}
+use Rattle.base.specs.Verdict.{Gives, saidVerdict, verdictOf}
 use Rattle.base.specs.Written.{Writes, saidWritten}
 use Rattle.base.specs.declared.written.Written.{Written}
 use Rattle.base.specs.declared.refusal.Refusal.{Refusal}
 use Rattle.base.specs.declared.verdict.Verdict.{Verdict}
-use Rattle.base.specs.declared.verdict.Verdict.the-variants.{Accepted, Refused}
 use Rattle.base.specs.declared.written.Written.the-variants as Written
-use Rattle.base.proofs.Outcome.{apart}
 use Rattle.base.proofs.written.Laws.{refusing}
 use Rattle.capi.specs.Number.{Codes, Takes, code, plain}
 use Rattle.collector.specs.declared.Collector.{Collector}
@@ -25,21 +23,6 @@ plain-verdict (refused number carried) = refl
 
 pub taking-coded : {taken : Outcome Collector} {v : Verdict} {n : ℕ} {before after : Collector} → n ≡ code (plain (saidVerdict v)) → Gives taken before v after → Takes taken n before after
 taking-coded {taken} e g = record { answers = e ∙ ap (λ x. code (plain x)) (g .says) ∙ ap code (plain-verdict taken); leaves = g .holds }
-
--- a reader's record goes on to its writer; its refusal is the answer
-pub gave : {A : Type 0} {outcome : Outcome A} {empty a : A} {v : Verdict} → Gives outcome empty v a → v ≡ Accepted → outcome ≡ accepted a
-gave {A} {outcome} {empty} {a} {v} g e = go outcome (sym (g .says) ∙ ap saidVerdict e) (g .holds)
-  where
-    go : (x : Outcome A) → verdictOf x ≡ accepted tt → a ≡ recordOf empty x → x ≡ accepted a
-    go (accepted b) p q = ap accepted (sym q)
-    go (refused n w) p q = absurd (apart p)
-
-pub fell : {A : Type 0} {outcome : Outcome A} {empty a : A} {v : Verdict} (r : Refusal) → Gives outcome empty v a → v ≡ Refused r → outcome ≡ refusal r
-fell {A} {outcome} {empty} {a} {v} r g e = go outcome (sym (g .says) ∙ ap saidVerdict e)
-  where
-    go : (x : Outcome A) → verdictOf x ≡ refusal r → x ≡ refusal r
-    go (accepted b) p = absurd (apart (sym p))
-    go (refused n w) p = cc
 
 -- a message that is refused, as a number
 pub refused-coded : {message : Outcome (List ℕ)} (r : Refusal) {n : ℕ} (buffer : List ℕ) → message ≡ refusal r → n ≡ code (refusal r) → Codes message n buffer buffer

@@ -6,10 +6,10 @@ use mathlib.Core.Logic.{inl, inr, ⊎-elim}
 use mathlib.Core.Path.{_≡_, refl, sym, ap, subst}
 use native.Mathlib.Omega.{arith}
 use lib.ListN.{length, replicate}
-use Rattle.base.specs.Outcome.{Outcome, accepted, refused}
+use Rattle.base.specs.Outcome.{Outcome, accepted, refused, isAccepted}
 use Rattle.base.specs.Verdict.{verdictOf}
 use Rattle.collector.specs.Collector.{answerOf, capacity, complete, fresh, listOf, missing, standingOf, taking}
-use Rattle.collector.specs.Histories.{Call, Calls, Explained, Explains, HeardIn, Honest, IsBytes, acceptedOf, after, isAccepted, lastOf}
+use Rattle.collector.specs.Histories.{Call, Calls, Explained, Explains, HeardIn, Honest, IsBytes, acceptedOf, after, lastOf}
 use Rattle.collector.specs.declared.Collector.{Collector}
 use Rattle.collector.proofs.Asking.{honest-calls}
 use Rattle.collector.proofs.Demand.{accepted-exactly, complete-list, honest-explains, honest-never-refused, lowest-named, missing-before, refused-by-12, refused-exactly}

@@ -7,9 +7,10 @@ use mathlib.Core.Bool.{true, false}
 use native.Mathlib.Omega.{arith}
 use lib.ListN.{length, take, drop, getD}
 use lib.Seq.{getD-drop}
+use Rattle.base.specs.Outcome.{isAccepted}
 use Rattle.base.specs.Verdict.{recordOf}
 use Rattle.collector.specs.Collector.{answerOf, taking, lowest, isComplete}
-use Rattle.collector.specs.Histories.{Call, IsBytes, Calls, Honest, after, isAccepted, lastOf, asking}
+use Rattle.collector.specs.Histories.{Call, IsBytes, Calls, Honest, after, lastOf, asking}
 use Rattle.collector.proofs.Basic.{lt-or-le, eq-or-ne, bool-cases}
 use Rattle.collector.proofs.Step.{TellsOf, replicate-zero, fresh-tells}
 use Rattle.collector.proofs.History.{History, history, stepped}

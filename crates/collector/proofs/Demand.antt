@@ -7,10 +7,10 @@ use mathlib.Core.Path.{_≡_, refl, sym, ap, _∙_, subst}
 use native.Mathlib.Omega.{arith}
 use lib.ListN.{length, getD}
 use Rattle.base.specs.Choice.{if_then_else_}
-use Rattle.base.specs.Outcome.{Outcome, accepted, refused}
+use Rattle.base.specs.Outcome.{Outcome, accepted, refused, isAccepted}
 use Rattle.base.specs.Verdict.{recordOf}
 use Rattle.collector.specs.Collector.{complete, missing, lastIndex, partLength, capacity, answerOf, leastTo, wellFormed, taking, lowest, isComplete, standingOf, listOf}
-use Rattle.collector.specs.Histories.{Call, IsBytes, Calls, after, isAccepted, acceptedOf, Explains, Explained, Honest, HeardIn, Among, lastOf, asking, Reachable, Held}
+use Rattle.collector.specs.Histories.{Call, IsBytes, Calls, after, acceptedOf, Explains, Explained, Honest, HeardIn, Among, lastOf, asking, Reachable, Held}
 use Rattle.collector.specs.declared.Collector.{Collector}
 use Rattle.collector.proofs.Asking.{Asked, asked, honest-calls, honest-accepted, honest-tells, not-yet}
 use Rattle.collector.proofs.Basic.{bool-cases, lt-or-le, eq-or-ne}

@@ -8,10 +8,10 @@ use native.Mathlib.Omega.{arith}
 use lib.ListN.{length, getD}
 use Rattle.collector.specs.declared.Collector.{Collector}
 use Rattle.base.specs.Choice.{if_then_else_}
-use Rattle.base.specs.Outcome.{Outcome, accepted, refused}
+use Rattle.base.specs.Outcome.{Outcome, accepted, refused, isAccepted}
 use Rattle.base.specs.Verdict.{recordOf}
 use Rattle.collector.specs.Collector.{answerOf, wellFormed, put, taking}
-use Rattle.collector.specs.Histories.{Call, Calls, Explains, Explained, Held, after, isAccepted, acceptedOf, HeardIn, Among}
+use Rattle.collector.specs.Histories.{Call, Calls, Explains, Explained, Held, after, acceptedOf, HeardIn, Among}
 use Rattle.collector.proofs.Basic.{eq-or-ne}
 use Rattle.collector.proofs.Parts.{mark-here, mark-other}
 use Rattle.collector.proofs.Step.{TellsOf, true-not-false, replicate-zero, answer-same, StepView, view}

@@ -8,10 +8,10 @@ use lib.ListN.{length, take}
 use lib.Seq.{length-take-le}
 use Rattle.collector.specs.declared.Collector.{Collector}
 use Rattle.base.specs.Choice.{if_then_else_}
-use Rattle.base.specs.Outcome.{Outcome, refused}
+use Rattle.base.specs.Outcome.{Outcome, refused, isAccepted}
 use Rattle.base.specs.Verdict.{recordOf}
 use Rattle.collector.specs.Collector.{answerOf, leastTo, wellFormed, put, taking}
-use Rattle.collector.specs.Histories.{Call, IsBytes, Calls, Explains, Explained, Held, after, isAccepted, acceptedOf}
+use Rattle.collector.specs.Histories.{Call, IsBytes, Calls, Explains, Explained, Held, after, acceptedOf}
 use Rattle.collector.proofs.Basic.{MarksOk, low-small, tells-low}
 use Rattle.collector.proofs.Parts.{answer-length, zeros-put, tells-put, tells-old, tells-new}
 use Rattle.collector.proofs.Step.{TellsOf, true-not-false, wf-marks, wf-zeros, wf-of, fresh-typed, fresh-tells, fresh-wf, same-answer, answer-same, put-typed, StepView, view}

@@ -1,12 +1,11 @@
 -- Histories of answers: what demand 3 speaks of. A history is listed latest first.
 use Prim.Native.Nat.{ℕ, zero, suc, _/_, _≤_, _<_, min}
-use mathlib.Core.Bool.{Bool, true, false}
 use mathlib.Core.List.{List, [], _∷_}
 use mathlib.Core.Logic.{_⊎_}
 use mathlib.Core.Path.{_≡_}
 use lib.ListN.{length, getD}
 use Rattle.base.specs.Choice.{if_then_else_}
-use Rattle.base.specs.Outcome.{Outcome, accepted, refused}
+use Rattle.base.specs.Outcome.{isAccepted}
 use Rattle.base.specs.Verdict.{recordOf}
 use Rattle.collector.specs.Collector.{lastIndex, partLength, capacity, parts, answerOf, fresh, lowest, taking}
 use Rattle.collector.specs.declared.Collector.{Collector}
@@ -27,10 +26,6 @@ Calls (call ∷ earlier) = IsBytes (call .content) × Calls earlier
 unfoldable pub after : List Call → Collector
 after [] = fresh
 after (call ∷ earlier) = recordOf (after earlier) (taking (after earlier) (call .index) (call .content))
-
-abbrev pub isAccepted : {A : Type 0} → Outcome A → Bool
-isAccepted (accepted a) = true
-isAccepted (refused number carried) = false
 
 -- those of the calls that were accepted
 unfoldable pub acceptedOf : List Call → List Call

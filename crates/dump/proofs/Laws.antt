@@ -3,7 +3,7 @@ use mathlib.Core.Path.{_≡_, refl, sym, _∙_, ap}
 use mathlib.Core.Bool.{Bool, true, false}
 use mathlib.Core.List.{List, [], _∷_}
 use mathlib.Core.Option.{Option}
-use Prim.Native.Nat.{ℕ, zero, suc, _-_, _≤_, _<_}
+use Prim.Native.Nat.{ℕ, suc, _-_, _≤_, _<_}
 use native.Mathlib.Omega.{arith}
 use borrow.Author.Tests.{lt-ltb, le-ltb, eq-eqb}
 use lib.Dec.{eqb, ltb}
@@ -17,11 +17,8 @@ use Rattle.base.specs.Choice.{if_then_else_}
 use Rattle.base.specs.Outcome.{Outcome, accepted, refused, _>>=_}
 use Rattle.base.specs.Refusal.{refusal, row}
 use Rattle.base.specs.Text.{ascii}
-use Rattle.base.specs.Verdict.{Gives, saidVerdict}
 use Rattle.base.specs.Written.{Writes, written, lengthOf, over}
 use Rattle.base.specs.declared.refusal.Refusal.{Refusal}
-use Rattle.base.specs.declared.verdict.Verdict.{Verdict}
-use Rattle.base.specs.declared.verdict.Verdict.the-variants as Verdicts
 use Rattle.base.specs.declared.written.Written.{Written}
 use Rattle.base.specs.declared.written.Written.the-variants.{Length, Refused}
 use Rattle.base.proofs.Outcome.{apart}
@@ -31,9 +28,7 @@ use Rattle.collector.specs.declared.Collector.{Collector}
 use Rattle.collector.proofs.Entries.{unformed, unlisted}
 use Rattle.lines.specs.Lines.{pairsOf}
 use Rattle.lines.proofs.Laws.{bytes-at, decimal-fits}
-use Rattle.suites.specs.GetChannelCipherSuites.{before, numbersOf, stepAt, upTo}
-use Rattle.suites.specs.declared.get_channel_cipher_suites.SuiteAnswer.{SuiteAnswer}
-use Rattle.suites.specs.declared.get_channel_cipher_suites.SuiteAnswer.the-variants as Suites
+use Rattle.suites.specs.GetChannelCipherSuites.{numbersOf}
 use Rattle.texts.specs.Appends.{wrote}
 use Rattle.texts.specs.Texts.{blockText, chosen, missingText, refusedText, suitesText}
 use Rattle.texts.proofs.Laws.{wrote-all}
@@ -128,18 +123,7 @@ module _ {piece b a : List ℕ} {r : Written} (w : Writes (accepted piece) r b a
       let z : n - 0 ≡ length piece = let l = as-long n e in omega arith in
       rw (z, placed w h) (take-append-seam piece (drop (length piece) b))
 
--- Answers beside a record.
-
-pub gave : {A : Type 0} (o : Outcome A) {e g : A} {v : Verdict} → Gives o e v g → v ≡ Verdicts.Accepted → o ≡ accepted g
-gave (accepted x) w q = ap accepted (sym (w .holds))
-gave (refused n k) w q = let s = sym (ap saidVerdict q) ∙ w .says in absurd (apart (sym s))
-
-pub refused-it : {A : Type 0} (o : Outcome A) {e g : A} {v : Verdict} (x : Refusal) → Gives o e v g → v ≡ Verdicts.Refused x → (o ≡ refusal x) × (g ≡ e)
-refused-it (accepted y) x w q = let s = sym (ap saidVerdict q) ∙ w .says in absurd (apart s)
-refused-it (refused n k) x w q = let s = sym (ap saidVerdict q) ∙ w .says in (alike s, w .holds)
-  where
-    alike : {B : Type 0} → _≡_ {A = Outcome (Unit {0})} (refused (row x .0) (row x .1)) (refused n k) → _≡_ {A = Outcome B} (refused n k) (refused (row x .0) (row x .1))
-    alike e = cc
+-- The best type.
 
 pub best : (r : AuthTypeAnswer) (b : Option AuthType) → saidAuthType r ≡ accepted b → chosen r ≡ b
 best (Best.AuthType k) b e = cc
@@ -153,18 +137,6 @@ block-fits i n p q =
     rw (length-append, length-append, length-append, length-append) (omega arith)
 
 -- Suites.
-
-many : (k : ℕ) (s : SuiteAnswer) (rest : List ℕ) → length rest ≤ k → length (before s rest) ≤ suc k
-many k (Suites.Suite x) rest h = omega arith
-many k Suites.Nothing rest h = omega arith
-
-steps-length : (k : ℕ) (list : List ℕ) (p : ℕ) (f : Bool) → length (upTo k list p f) ≤ k
-unfolding upTo
-steps-length zero list p f = omega arith
-steps-length (suc k) list p f = many k (stepAt list p f .answer) _ (steps-length k list (stepAt list p f .position) (stepAt list p f .failed))
-
-pub numbers-length : (list : List ℕ) → length (numbersOf list) ≤ length list
-numbers-length list = steps-length (length list) list 0 false
 
 module _ (c : Collector) {r : Written} {b a : List ℕ} where
   pub listed : (n : ℕ) → standingOf c ≡ accepted (complete n) → Writes (accepted (suitesText (numbersOf (take (n - 0) (c .bytes))))) r b a → Writes (accepted (listText (listOf c))) r b a

@@ -1,5 +1,5 @@
 -- The program lends 1,024 bytes for each answer: no answer is longer.
-use Prim.Native.Nat.{ℕ, zero, suc, _+_, _*_, _≤_, _<_}
+use Prim.Native.Nat.{ℕ, suc, _+_, _*_, _≤_, _<_}
 use mathlib.Core.Bool.{Bool, true, false}
 use mathlib.Core.List.{List, [], _∷_}
 use mathlib.Core.Option.{Option, none, some}
@@ -29,13 +29,14 @@ use Rattle.info.specs.declared.get_channel_info.ChannelInfo.{ChannelInfo}
 use Rattle.lines.specs.Lines.{decimal, digitOf, pairOf, pairsOf, space}
 use Rattle.lines.proofs.Laws.{bytes-at, decimal-digits, decimal-fits, digit-small}
 use Rattle.suites.specs.GetChannelCipherSuites.{numbersOf}
-use Rattle.suites.proofs.get_channel_cipher_suites.Records.{numbered-at}
-use Rattle.texts.specs.Texts.{accessText, authText, blockText, infoText, missingText, refusedText, spaced, stateText, suitesText}
+use Rattle.suites.proofs.get_channel_cipher_suites.Records.{five-each, numbered-at}
+use Rattle.texts.specs.Texts.{accessText, authText, infoText, missingText, refusedText, spaced, stateText, suitesText}
 use Rattle.texts.proofs.Fits.{channel-fits, limit-fits, medium-fits, mode-fits, name-fits, protocol-fits, session-fits}
 use Rattle.texts.proofs.Laws.{suites-length}
 use Rattle.dump.specs.Dump.{answering, badLine, heard, hearing, listText, longest, reading, saying, shown, wordOf}
 use Rattle.dump.specs.declared.Word.{Word}
 use Rattle.dump.specs.declared.Word.the-variants.{Inf, Acc, Cap, Sui, End, Other}
+use Rattle.dump.proofs.Laws.{block-fits}
 
 abbrev Small : ℕ → Type 0
 Small n = n < 18446744073709551616
@@ -49,10 +50,6 @@ refused-room n h = let d = decimal-fits n h in simp length-append (omega arith)
 missing-room : (n : ℕ) → Small n → length (missingText n) ≤ 1024
 unfolding missingText
 missing-room n h = let d = decimal-fits n h in simp length-append (omega arith)
-
-block-room : (i n : ℕ) → Small i → Small n → length (blockText i n) ≤ 1024
-unfolding blockText
-block-room i n h k = let d = decimal-fits i h in let e = decimal-fits n k in simp length-append (omega arith)
 
 info-room : (i : ChannelInfo) → Small (i .«active_sessions») → Small (i .«vendor_id») → length (infoText i) ≤ 1024
 unfolding infoText
@@ -112,13 +109,6 @@ spaced-room (n ∷ numbers) h =
     let r = spaced-room numbers (λ i. h (suc i)) in
     simp length-append (omega arith)
 
-numbers-room : (list : List ℕ) → length list ≤ 1024 → length (numbersOf list) ≤ 204
-numbers-room list h = go (length (numbersOf list)) refl
-  where
-    go : (k : ℕ) → length (numbersOf list) ≡ k → length (numbersOf list) ≤ 204
-    go zero e = omega arith
-    go (suc k) e = let (l, q) = numbered-at list k (omega arith) in omega arith
-
 numbers-bytes : (list : List ℕ) → IsBytes list → IsBytes (numbersOf list)
 numbers-bytes list b i = go (ltb i (length (numbersOf list))) refl
   where
@@ -128,7 +118,7 @@ numbers-bytes list b i = go (ltb i (length (numbersOf list))) refl
 
 suites-room : (list : List ℕ) → IsBytes list → length list ≤ 1024 → length (suitesText (numbersOf list)) ≤ 1024
 suites-room list b h =
-    let n = numbers-room list h in
+    let n = five-each list in
     let s = spaced-room (numbersOf list) (numbers-bytes list b) in
     let l = suites-length (numbersOf list) in
     omega arith
@@ -154,11 +144,11 @@ module _ (c : Collector) (t : Held c) where
       (low-if (eqb (getD (c .marks) i 0) 0) _ _ (low-if (wellFormed (put c i part)) _ _ tt (omega arith)) (low-if (holds c i part) _ _ tt (omega arith)))))
       (omega arith)
 
-  heard-room : (i : ℕ) (part : List ℕ) → Small i → Small (length part) → length (heard c i part .text) ≤ 1024
+  heard-room : (i : ℕ) (part : List ℕ) → i < 256 → Small (length part) → length (heard c i part .text) ≤ 1024
   heard-room i part h k = go (taking c i part) (taking-low i part)
     where
       go : (x : Outcome Collector) → Low x → length (hearing c i part x .text) ≤ 1024
-      go (accepted a) l = block-room i (length part) h k
+      go (accepted a) l = let f = block-fits i (length part) h k in omega arith
       go (refused number carried) l = refused-room number l
 
   module _ (bytes : List ℕ) (b : IsBytes bytes) (l : length bytes ≤ 256) where

@@ -10,11 +10,11 @@ use lib.Dec.{eqb, ltb}
 use lib.ListN.{length, getD, drop, set, length-append, length-drop, length-set}
 use lib.Seq.{drop-cons, drop-length, getD-set-same, drop-set-lt}
 use Rattle.base.specs.Choice.{if_then_else_, if_from_to_then_else_}
-use Rattle.base.specs.Outcome.{Outcome, accepted, refused, _>>=_}
+use Rattle.base.specs.Outcome.{Outcome, accepted, refused, _>>=_, isAccepted}
 use Rattle.base.specs.Text.{digit}
 use Rattle.base.specs.Verdict.{recordOf}
 use Rattle.base.proofs.Outcome.{apart, steps, Only, only-steps, only-refused}
-use Rattle.lines.specs.Lines.{decimal, digitOf, digits, isAccepted, lineLength, newline, newlineFrom, pairOf, pairsOf, space}
+use Rattle.lines.specs.Lines.{decimal, digitOf, digits, lineLength, newline, newlineFrom, pairOf, pairsOf, space}
 
 no : {A : Type 0} → false ≡ true → A
 no e = let z : _≡_ {A = ℕ} 0 1 = cc in absurd (omega arith)

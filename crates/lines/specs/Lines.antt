@@ -1,6 +1,5 @@
 -- What stands in a line: hex pairs, numbers; where a line ends. Document 01, "chandump".
 use Prim.Native.Nat.{ℕ, zero, suc, _+_, _-_, _*_, _/_, _%_}
-use mathlib.Core.Bool.{Bool, true, false}
 use mathlib.Core.List.{List, [], _∷_, _++_}
 use lib.ListN.{length, drop}
 use Rattle.base.specs.Choice.{if_then_else_, if_from_to_then_else_, _<?_, _=?_}
@@ -62,7 +61,3 @@ lineLength (byte ∷ rest) = if byte =? newline then 0 else suc (lineLength rest
 -- where the next newline stands from a place on, or the end
 abbrev pub newlineFrom : List ℕ → ℕ → ℕ
 newlineFrom block at = if length block <? at then length block else at + lineLength (drop at block)
-
-abbrev pub isAccepted : {A : Type 0} → Outcome A → Bool
-isAccepted (accepted a) = true
-isAccepted (refused number carried) = false

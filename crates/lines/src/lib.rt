@@ -1,10 +1,10 @@
 // What stands in a line: hex pairs, numbers; where a line ends.
 ghost use Rattle.base.specs.Verdict.{recordOf};
 ghost use mathlib.Core.Path.{_≡_};
-ghost use Rattle.base.specs.Outcome.{accepted};
+ghost use Rattle.base.specs.Outcome.{accepted, isAccepted};
 ghost use Rattle.base.specs.Text.{hex2};
 ghost use Rattle.base.specs.Written.{Writes};
-ghost use Rattle.lines.specs.Lines.{decimal, digitOf, isAccepted, newlineFrom, pairOf, pairsOf, saidByte};
+ghost use Rattle.lines.specs.Lines.{decimal, digitOf, newlineFrom, pairOf, pairsOf, saidByte};
 use base::refusal::Refusal;
 use base::text::digit;
 use base::written::Written;

@@ -1,6 +1,7 @@
 use borrow.Author.Needs.{needs}
 use Rattle.auth.specs.GetChannelAuthenticationCapabilities.{capabilitiesOf}
-use Rattle.dump.proofs.Laws.{best, gave, refused-it}
+use Rattle.base.proofs.verdict.Laws.{fell, gave}
+use Rattle.dump.proofs.Laws.{best}
 use Rattle.dump.proofs.capabilities.Statement.{statement}
 use Rattle.dump.proofs.capabilities.Tie as tie
 
@@ -19,7 +20,7 @@ returns-2 c =
     let p = k .before .before .before in
     let a = p .before .before .before .args in
     rw
-    (refused-it (capabilitiesOf (a .response .now)) _ (p .parse .ensures) (k .verdict .given .1) .0)
+    (fell (capabilitiesOf (a .response .now)) _ (p .parse .ensures) (k .verdict .given .1) .0)
     (rw (c .before .before .before .before .number .ensures) at (c .before .before .refused-text .ensures))
 
 pub capabilities-spec : {M : Type 1} → statement M

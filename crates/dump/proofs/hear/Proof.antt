@@ -1,9 +1,10 @@
 use borrow.Author.Needs.{needs}
 use native.Mathlib.Omega.{arith}
 use lib.ListN.{length}
+use Rattle.base.proofs.verdict.Laws.{fell, gave}
 use Rattle.collector.specs.Collector.{taking}
 use Rattle.collector.specs.Shape.{held}
-use Rattle.dump.proofs.Laws.{as-long, block-fits, gave, heard-refused, heard-taken, never, refused-it, stands, unroomed}
+use Rattle.dump.proofs.Laws.{as-long, block-fits, heard-refused, heard-taken, never, stands, unroomed}
 use Rattle.dump.proofs.hear.Statement.{statement}
 use Rattle.dump.proofs.hear.Tie as tie
 
@@ -63,7 +64,7 @@ returns-4 c =
     let t = v .before .before .before .before .before .before .before .before in
     let a = t .before .before .before .before .args in
     let h = held (a .bytes .now) (a .marks .now) in
-    let g = refused-it (taking h (a .index) (a .response .now)) _ (v .answer-in .ensures) (k .verdict .given .1) in
+    let g = fell (taking h (a .index) (a .response .now)) _ (v .answer-in .ensures) (k .verdict .given .1) in
     rw (g .1) (heard-refused h (a .index) (a .response .now) (k .verdict .given .0 .0) (g .0) (rw (c .before .before .before .before .number .ensures) at (c .before .before .refused-text .ensures)))
 
 pub hear-spec : {M : Type 1} → statement M

@@ -2,10 +2,11 @@ use borrow.Author.Needs.{needs}
 use native.Mathlib.Omega.{arith}
 use lib.ListN.{length}
 use Rattle.base.proofs.written.Laws.{lacking}
+use Rattle.base.proofs.verdict.Laws.{fell, gave}
 use Rattle.collector.specs.Collector.{taking}
 use Rattle.collector.specs.Shape.{held}
 use Rattle.texts.specs.Texts.{blockText}
-use Rattle.dump.proofs.Laws.{gave, refused-it, text-refused, text-taken}
+use Rattle.dump.proofs.Laws.{text-refused, text-taken}
 use Rattle.dump.proofs.without_room.Statement.{statement}
 use Rattle.dump.proofs.without_room.Tie as tie
 
@@ -23,7 +24,7 @@ returns-2 c =
     let v = k .before .before in
     let a = v .before .before .before .before .before .before .before .args in
     let h = held (a .bytes .now) (a .marks .now) in
-    text-refused h (a .index) (a .response .now) (k .verdict .given .0 .0) (refused-it (taking h (a .index) (a .response .now)) _ (v .answer-in .ensures) (k .verdict .given .1) .0)
+    text-refused h (a .index) (a .response .now) (k .verdict .given .0 .0) (fell (taking h (a .index) (a .response .now)) _ (v .answer-in .ensures) (k .verdict .given .1) .0)
     (rw (c .before .before .before .before .number .ensures) at (c .before .before .refused-text .ensures))
 
 pub without-room-spec : {M : Type 1} → statement M

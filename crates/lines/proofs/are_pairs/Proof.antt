@@ -4,7 +4,8 @@ use mathlib.Core.Path.{_≡_, refl, sym, _∙_}
 use Prim.Native.Nat.{_-_, _≤_}
 use native.Mathlib.Omega.{arith}
 use lib.ListN.{length, drop}
-use Rattle.lines.specs.Lines.{isAccepted, pairsOf}
+use Rattle.base.specs.Outcome.{isAccepted}
+use Rattle.lines.specs.Lines.{pairsOf}
 use Rattle.lines.proofs.Laws.{ending, missed, taken}
 use Rattle.lines.proofs.are_pairs.Statement.{statement}
 use Rattle.lines.proofs.are_pairs.Tie as tie

@@ -124,6 +124,14 @@ module _ (list : List ℕ) where
   pub numbered-at : (i : ℕ) → i < length (numbersOf list) → (5 * i + 5 ≤ length list) × (getD (numbersOf list) i 0 ≡ byte (5 * i + 1) list)
   numbered-at i h = let e : 0 + 5 * i + 1 ≡ 5 * i + 1 = omega arith in let (l, q) = record-at (length list) 0 i h in (omega arith, rw e at q)
 
+  -- a suite takes five bytes
+  pub five-each : 5 * length (numbersOf list) ≤ length list
+  five-each = go (length (numbersOf list)) refl
+    where
+      go : (k : ℕ) → length (numbersOf list) ≡ k → 5 * length (numbersOf list) ≤ length list
+      go zero e = omega arith
+      go (suc k) e = let (l, q) = numbered-at k (omega arith) in omega arith
+
   follow : (k p : ℕ) {s : Step} → stepAt list p false ≡ s → stepAfter (suc k) list p false .answer ≡ stepAfter k list (s .position) (s .failed) .answer
   unfolding stepAfter
   follow k p e = ap (λ (s : Step). stepAfter k list (s .position) (s .failed) .answer) e
