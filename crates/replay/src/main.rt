@@ -1,9 +1,9 @@
 // Answers the questions on standard input from the port, a line each, as tests/oracle answers them from the Rust.
 ghost use Prim.Native.Nat.{_<_};
 use crate::question::answer;
-use crate::question::find;
 use libc::STDIN_FILENO;
 use libc::STDOUT_FILENO;
+use lines::newline_from;
 
 mod channels;
 mod ciphers;
@@ -103,7 +103,7 @@ fn fed(block: &[u8], before: Turn, line: &mut [u8], out: &mut [u8]) -> Turn {
     let mut t = before;
     let mut at: usize = 0;
     while at < block.len() {
-        let end = find(block, at, b'\n');
+        let end = newline_from(block, at);
         t = line_at(block, at, end, t, line, out);
         at = end + 1;
     }

@@ -1,6 +1,5 @@
 // An answering line, put together: what is written so far ends at `at`, and each function gives the new end.
 use base::refusal::Refusal;
-use base::text::digit;
 use base::written::Written;
 use base::written::place;
 
@@ -26,8 +25,8 @@ pub(crate) fn text(words: &[u8], at: usize, out: &mut [u8]) -> usize {
 
 pub(crate) fn decimal(n: u64, at: usize, out: &mut [u8]) -> usize {
     let mut digits = [0u8; 20];
-    let count = io::decimal(n, &mut digits);
-    text(&digits[..count], at, out)
+    let written = lines::decimal(n, &mut digits);
+    copied(written, &digits, at, out)
 }
 
 // A name, and the number that it stands for.
@@ -81,10 +80,13 @@ pub(crate) fn copied(written: Written, words: &[u8], at: usize, out: &mut [u8]) 
 
 // A byte as two digits, behind a space but at the start.
 fn pair(byte: u8, at: usize, out: &mut [u8]) -> usize {
+    let mut digits = [0u8; 2];
+    let written = lines::hex(byte, &mut digits);
     if at == 0 {
-        return text(&[digit(byte / 16), digit(byte)], at, out);
+        return copied(written, &digits, at, out);
     }
-    text(&[b' ', digit(byte / 16), digit(byte)], at, out)
+    let at = text(b" ", at, out);
+    copied(written, &digits, at, out)
 }
 
 fn pairs(bytes: &[u8], out: &mut [u8]) -> usize {

@@ -1,17 +1,17 @@
 use borrow.Author.Needs.{needs}
 use Prim.Native.Nat.{_-_, _≤_}
 use lib.ListN.{length}
-use Rattle.replay.proofs.question.find.Statement.{statement}
-use Rattle.replay.proofs.question.find.Tie as tie
+use Rattle.replay.proofs.question.word_length.Statement.{statement}
+use Rattle.replay.proofs.question.word_length.Tie as tie
 
 abbrev Inv-loop : tie.InvT-loop
-Inv-loop s from byte i₀ i = (from ≤ i) × (i ≤ length s)
+Inv-loop line i₀ i = i ≤ length line
 
 abbrev μ-loop : tie.MeasureT-loop
-μ-loop s from byte i₀ i = length s - i
+μ-loop line i₀ i = length line - i
 
-pub find-spec : {M : Type 1} → statement M
-find-spec =
+pub word-length-spec : {M : Type 1} → statement M
+word-length-spec =
     tie.close
     (tie.spec
     Inv-loop
