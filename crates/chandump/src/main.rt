@@ -59,7 +59,8 @@ fn answered(
 ) -> usize {
     if put < out.len() {
         let room = out.len() - put;
-        let written = dump(bytes, marks, line, &mut out[put..]);
+        let answer = dump(bytes, marks, line, &mut out[put..]);
+        let written = answer.written;
         match written {
             Written::Length(n) => {
                 if n < room {

@@ -4,6 +4,7 @@ use mathlib.Core.Bool.{Bool, true, false}
 use mathlib.Core.List.{List, [], _∷_, _++_, append-assoc, append-nil}
 use Prim.Native.Nat.{ℕ, suc}
 use native.Mathlib.Omega.{arith}
+use borrow.Author.Tests.{eqb-true}
 use lib.Dec.{eqb}
 use lib.ListN.{length}
 use Rattle.base.specs.Choice.{if_then_else_}
@@ -45,10 +46,28 @@ lines-joined [] rest h = refl
 lines-joined (line ∷ lines) rest h =
     rw (append-assoc line (newline ∷ joined lines) rest) (first-line line [] (joined lines ++ rest) (h .0) ∙ ap (λ (l : List (List ℕ)). line ∷ l) (lines-joined lines rest (h .1)))
 
+-- every input is lines, a newline behind each, and a last line, which may be empty
+pub record Split (input : List ℕ) : Type 0 where
+  pub lines : List (List ℕ)
+  pub last : List ℕ
+  pub ended : Lines lines
+  pub rest : Line last
+  pub all : input ≡ joined lines ++ last
+
+pub split : (input : List ℕ) → Split input
+unfolding lineLength
+split [] = record { lines = []; last = []; ended = tt; rest = refl; all = refl }
+split (x ∷ input) = go (eqb x newline) refl (split input)
+  where
+    begin : (lines : List (List ℕ)) (last : List ℕ) → eqb x newline ≡ false → Lines lines → Line last → input ≡ joined lines ++ last → Split (x ∷ input)
+    begin [] last e h o a = record { lines = []; last = x ∷ last; ended = tt; rest = rw e (ap suc o); all = ap (λ (l : List ℕ). x ∷ l) a }
+    begin (line ∷ lines) last e h o a = record { lines = (x ∷ line) ∷ lines; last = last; ended = (rw e (ap suc (h .0)), h .1); rest = o; all = ap (λ (l : List ℕ). x ∷ l) a }
+
+    go : (b : Bool) → eqb x newline ≡ b → Split input → Split (x ∷ input)
+    go true e s = record { lines = [] ∷ s .lines; last = s .last; ended = (refl, s .ended); rest = s .rest; all = rw (eqb-true x newline e, s .all) }
+    go false e s = begin (s .lines) (s .last) e (s .ended) (s .rest) (s .all)
+
 -- the text of a whole input: the heading and the answers of its lines, one after the other
-pub whole : (lines : List (List ℕ)) → Lines lines → outputOf (joined lines) ≡ ascii "chandump 1" ++ (newline ∷ answersFrom fresh lines)
-unfolding outputOf linesFrom
-whole lines h =
-    let e = lines-joined lines [] h in
-    let f : linesOf (joined lines) ≡ lines = ap linesOf (sym (append-nil (joined lines))) ∙ e ∙ append-nil lines in
-    rw f
+pub whole : (lines : List (List ℕ)) (last : List ℕ) → Lines lines → Line last → outputOf (joined lines ++ last) ≡ ascii "chandump 1" ++ (newline ∷ answersFrom fresh (lines ++ lastLine last))
+unfolding outputOf
+whole lines last h o = rw (lines-joined lines last h, last-line last o)

@@ -32,7 +32,9 @@ use Rattle.suites.specs.GetChannelCipherSuites.{numbersOf}
 use Rattle.texts.specs.Appends.{wrote}
 use Rattle.texts.specs.Texts.{blockText, chosen, missingText, refusedText, suitesText}
 use Rattle.texts.proofs.Laws.{wrote-all}
-use Rattle.dump.specs.Dump.{Answers, answering, badLine, begins, ending, heard, hearing, keeping, listText, longest, reading, saying, wordOf}
+use Rattle.dump.specs.Dump.{Answers, Said, Says, answering, badLine, begins, ending, heard, hearing, keeping, listed, longest, reading, refusing, saying, wordOf}
+use Rattle.dump.specs.declared.Answered.{Answered}
+use Rattle.dump.specs.declared.Kind.the-variants.{Block, Suites, Missing}
 use Rattle.dump.specs.declared.Word.{Word}
 use Rattle.dump.specs.declared.Word.the-variants.{Inf, Acc, Cap, Sui, End, Other}
 
@@ -138,17 +140,17 @@ block-fits i n p q =
 
 -- Suites.
 
-module _ (c : Collector) {r : Written} {b a : List ℕ} where
-  pub listed : (n : ℕ) → standingOf c ≡ accepted (complete n) → Writes (accepted (suitesText (numbersOf (take (n - 0) (c .bytes))))) r b a → Writes (accepted (listText (listOf c))) r b a
-  listed n e w = let z : n - 0 ≡ n = omega arith in rw (unlist n e) (rw z at w)
+module _ (c : Collector) {b a : List ℕ} where
+  pub list-told : {w : Written} (n : ℕ) → standingOf c ≡ accepted (complete n) → Writes (accepted (suitesText (numbersOf (take (n - 0) (c .bytes))))) w b a → Says (listed (listOf c)) (record { kind = Suites; written = w }) b a
+  list-told n e w = let z : n - 0 ≡ n = omega arith in rw (unlist n e) (record { tells = refl; writes = rw z at w })
     where
       unlist : (n : ℕ) → standingOf c ≡ accepted (complete n) → listOf c ≡ accepted (take n (c .bytes))
       unlist n e = rw e
 
-  pub lacked : (i : ℕ) → standingOf c ≡ accepted (missing i) → Writes (accepted (missingText i)) r b a → Writes (accepted (listText (listOf c))) r b a
-  lacked i e w = rw (unlisted c i e) w
+  pub lacked : {w : Written} (i : ℕ) → standingOf c ≡ accepted (missing i) → Writes (accepted (missingText i)) w b a → Says (listed (listOf c)) (record { kind = Missing; written = w }) b a
+  lacked i e w = rw (unlisted c i e) (record { tells = refl; writes = w })
 
-  pub formless : standingOf c ≡ refused 9 [] → Writes (accepted (refusedText 9)) r b a → Writes (accepted (listText (listOf c))) r b a
+  pub formless : {r : Answered} → standingOf c ≡ refused 9 [] → Says (refusing 9) r b a → Says (listed (listOf c)) r b a
   formless e w = rw (unformed c e) w
 
 -- Answers to lines.
@@ -158,36 +160,37 @@ alike true c = refl
 alike false c = refl
 
 module _ (c : Collector) where
-  pub kept : {text : List ℕ} {r : Written} {b a : List ℕ} → Writes (accepted text) r b a → Answers (keeping c text) r b a c c
-  kept {text} {r} {b} w = record { writes = w; leaves = alike (ltb (length b) (length text)) c }
+  pub kept : {said : Said} {r : Answered} {b a : List ℕ} → Says said r b a → Answers (keeping c said) r b a c c
+  kept {said} {r} {b} w = record { says = w; leaves = alike (ltb (length b) (length (said .text))) c }
 
-  pub end-written : {n : ℕ} {b a : List ℕ} → Writes (accepted (listText (listOf c))) (Length n) b a → Answers (ending c) (Length n) b a c fresh
-  end-written w = record { writes = w; leaves = rw (had-room w) }
+  pub end-written : {r : Answered} {b a : List ℕ} (n : ℕ) → r .written ≡ Length n → Says (listed (listOf c)) r b a → Answers (ending c) r b a c fresh
+  end-written n e w = record { says = w; leaves = rw (had-room {n = n} (rw e at (w .writes))) }
 
-  pub end-unwritten : {x : Refusal} {b a : List ℕ} → Writes (accepted (listText (listOf c))) (Refused x) b a → Answers (ending c) (Refused x) b a c c
-  end-unwritten w = record { writes = w; leaves = rw (no-room w) }
+  pub end-unwritten : {r : Answered} {b a : List ℕ} (x : Refusal) → r .written ≡ Refused x → Says (listed (listOf c)) r b a → Answers (ending c) r b a c c
+  end-unwritten x e w = record { says = w; leaves = rw (no-room {x = x} (rw e at (w .writes))) }
 
-  module _ (i : ℕ) (part : List ℕ) {r : Written} {b a : List ℕ} where
-    pub unroomed : length b < length (blockText i (length part)) → Writes (accepted (heard c i part .text)) r b a → Answers (heard c i part) r b a c c
-    unroomed h w = go (taking c i part) w
+  module _ (i : ℕ) (part : List ℕ) {b a : List ℕ} where
+    pub unroomed : {r : Answered} → length b < length (blockText i (length part)) → Says (heard c i part .said) r b a → Answers (heard c i part) r b a c c
+    unroomed {r} h w = go (taking c i part) w
       where
-        go : (o : Outcome Collector) → Writes (accepted (hearing c i part o .text)) r b a → Answers (hearing c i part o) r b a c c
-        go (accepted t) w = record { writes = w; leaves = rw (lt-ltb (length b) (length (blockText i (length part))) h) }
+        go : (o : Outcome Collector) → Says (hearing c i part o .said) r b a → Answers (hearing c i part o) r b a c c
+        go (accepted t) w = record { says = w; leaves = rw (lt-ltb (length b) (length (blockText i (length part))) h) }
         go (refused n v) w = kept w
 
-    pub heard-taken : (left : Collector) → taking c i part ≡ accepted left → length (blockText i (length part)) ≤ length b → Writes (accepted (blockText i (length part))) r b a → Answers (heard c i part) r b a c left
-    heard-taken left e h w = rw e (record { writes = w; leaves = rw (le-ltb (length b) (length (blockText i (length part))) h) })
+    pub heard-taken : {w : Written} (left : Collector) → taking c i part ≡ accepted left → length (blockText i (length part)) ≤ length b → Writes (accepted (blockText i (length part))) w b a
+        → Answers (heard c i part) (record { kind = Block; written = w }) b a c left
+    heard-taken left e h w = rw e (record { says = record { tells = refl; writes = w }; leaves = rw (le-ltb (length b) (length (blockText i (length part))) h) })
 
-    pub heard-refused : (x : Refusal) → taking c i part ≡ refusal x → Writes (accepted (refusedText (row x .0))) r b a → Answers (heard c i part) r b a c c
+    pub heard-refused : {r : Answered} (x : Refusal) → taking c i part ≡ refusal x → Says (refusing (row x .0)) r b a → Answers (heard c i part) r b a c c
     heard-refused x e w = rw e (kept w)
 
-    pub text-refused : (x : Refusal) → taking c i part ≡ refusal x → Writes (accepted (refusedText (row x .0))) r b a → Writes (accepted (heard c i part .text)) r b a
+    pub text-refused : {r : Answered} (x : Refusal) → taking c i part ≡ refusal x → Says (refusing (row x .0)) r b a → Says (heard c i part .said) r b a
     text-refused x e w = rw e w
 
-    pub text-taken : (left : Collector) → taking c i part ≡ accepted left → Writes (accepted (blockText i (length part))) r b a → Writes (accepted (heard c i part .text)) r b a
-    text-taken left e w = rw e w
+    pub text-taken : {w : Written} (left : Collector) → taking c i part ≡ accepted left → Writes (accepted (blockText i (length part))) w b a → Says (heard c i part .said) (record { kind = Block; written = w }) b a
+    text-taken left e w = rw e (record { tells = refl; writes = w })
 
-  module _ {r : Written} {b a : List ℕ} {left : Collector} where
+  module _ {r : Answered} {b a : List ℕ} {left : Collector} where
     pub sui : (pairs : List ℕ) → 0 < length pairs → Answers (heard c (getD pairs 0 0) (take (length pairs - 1) (drop 1 pairs))) r b a c left → Answers (saying c Sui pairs) r b a c left
     sui [] h w = absurd (omega arith)
     sui (x ∷ pairs) h w = let z : suc (length pairs) - 1 ≡ length pairs = omega arith in rw (z, take-length pairs) at w

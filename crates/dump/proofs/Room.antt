@@ -33,7 +33,8 @@ use Rattle.suites.proofs.get_channel_cipher_suites.Records.{five-each, numbered
 use Rattle.texts.specs.Texts.{accessText, authText, infoText, missingText, refusedText, spaced, stateText, suitesText}
 use Rattle.texts.proofs.Fits.{channel-fits, limit-fits, medium-fits, mode-fits, name-fits, protocol-fits, session-fits}
 use Rattle.texts.proofs.Laws.{suites-length}
-use Rattle.dump.specs.Dump.{answering, badLine, heard, hearing, listText, longest, reading, saying, shown, wordOf}
+use Rattle.dump.specs.Dump.{answering, badLine, heard, hearing, listed, longest, reading, saying, shown, wordOf}
+use Rattle.dump.specs.declared.Kind.the-variants.{Info, Access, Auth}
 use Rattle.dump.specs.declared.Word.{Word}
 use Rattle.dump.specs.declared.Word.the-variants.{Inf, Acc, Cap, Sui, End, Other}
 use Rattle.dump.proofs.Laws.{block-fits}
@@ -124,13 +125,13 @@ suites-room list b h =
     omega arith
 
 module _ (c : Collector) (t : Held c) where
-  list-room : length (listText (listOf c)) ≤ 1024
+  list-room : length (listed (listOf c) .text) ≤ 1024
   list-room = go (wellFormed c) (isComplete c)
     where
       whole : (n : ℕ) → length (suitesText (numbersOf (take n (c .bytes)))) ≤ 1024
       whole n = let l = t .bytes in let e = length-take n (c .bytes) in suites-room (take n (c .bytes)) (take-bytes n (c .bytes) (t .small)) (omega arith)
 
-      go : (w k : Bool) → length (listText ((if w then accepted (if k then complete (leastTo (c .marks) parts) else missing (lowest (c .marks) parts)) else refused 9 []) >>= listBy (c .bytes))) ≤ 1024
+      go : (w k : Bool) → length (listed ((if w then accepted (if k then complete (leastTo (c .marks) parts) else missing (lowest (c .marks) parts)) else refused 9 []) >>= listBy (c .bytes)) .text) ≤ 1024
       go true true = whole (leastTo (c .marks) parts)
       go true false = let l = lowest-le (c .marks) 64 in missing-room (lowest (c .marks) parts) (omega arith)
       go false k = refused-room 9 (omega arith)
@@ -144,18 +145,18 @@ module _ (c : Collector) (t : Held c) where
       (low-if (eqb (getD (c .marks) i 0) 0) _ _ (low-if (wellFormed (put c i part)) _ _ tt (omega arith)) (low-if (holds c i part) _ _ tt (omega arith)))))
       (omega arith)
 
-  heard-room : (i : ℕ) (part : List ℕ) → i < 256 → Small (length part) → length (heard c i part .text) ≤ 1024
+  heard-room : (i : ℕ) (part : List ℕ) → i < 256 → Small (length part) → length (heard c i part .said .text) ≤ 1024
   heard-room i part h k = go (taking c i part) (taking-low i part)
     where
-      go : (x : Outcome Collector) → Low x → length (hearing c i part x .text) ≤ 1024
+      go : (x : Outcome Collector) → Low x → length (hearing c i part x .said .text) ≤ 1024
       go (accepted a) l = let f = block-fits i (length part) h k in omega arith
       go (refused number carried) l = refused-room number l
 
   module _ (bytes : List ℕ) (b : IsBytes bytes) (l : length bytes ≤ 256) where
-    info-shown : length (shown infoText (infoOf bytes)) ≤ 1024
+    info-shown : length (shown Info infoText (infoOf bytes) .text) ≤ 1024
     info-shown = go (ltb (length bytes) 9) (channelOf (bits 0 4 (byte 0 bytes)))
       where
-        go : (x : Bool) (o : Outcome Channel) → length (shown infoText (if x then refused 1 [] else faultsAs 1 (o >>= λ channel. accepted (infoFields bytes channel)))) ≤ 1024
+        go : (x : Bool) (o : Outcome Channel) → length (shown Info infoText (if x then refused 1 [] else faultsAs 1 (o >>= λ channel. accepted (infoFields bytes channel))) .text) ≤ 1024
         go true o = refused-room 1 (omega arith)
         go false (refused n v) = refused-room 1 (omega arith)
         go false (accepted channel) =
@@ -165,23 +166,23 @@ module _ (c : Collector) (t : Held c) where
             let s = b 6 in
             info-room (infoFields bytes channel) (omega arith) (omega arith)
 
-    access-shown : length (shown accessText (accessOf bytes)) ≤ 1024
+    access-shown : length (shown Access accessText (accessOf bytes) .text) ≤ 1024
     access-shown = go (ltb (length bytes) 2)
       where
-        go : (x : Bool) → length (shown accessText (if x then refused 1 [] else accepted (accessFields (byte 0 bytes) (byte 1 bytes)))) ≤ 1024
+        go : (x : Bool) → length (shown Access accessText (if x then refused 1 [] else accepted (accessFields (byte 0 bytes) (byte 1 bytes))) .text) ≤ 1024
         go true = refused-room 1 (omega arith)
         go false = access-room (accessFields (byte 0 bytes) (byte 1 bytes))
 
-    capabilities-shown : length (shown (λ capabilities. authText (bestAuth capabilities)) (capabilitiesOf bytes)) ≤ 1024
+    capabilities-shown : length (shown Auth (λ capabilities. authText (bestAuth capabilities)) (capabilitiesOf bytes) .text) ≤ 1024
     capabilities-shown =
         go (capabilitiesOf bytes)
         (low-if (ltb (length bytes) 7) _ _ (omega arith) (low-if (flag 7 (byte 1 bytes)) _ _ (low-if (ltb (length bytes) 8) _ _ (omega arith) tt) tt))
       where
-        go : (x : Outcome ChannelAuthenticationCapabilities) → Low x → length (shown (λ capabilities. authText (bestAuth capabilities)) x) ≤ 1024
+        go : (x : Outcome ChannelAuthenticationCapabilities) → Low x → length (shown Auth (λ capabilities. authText (bestAuth capabilities)) x .text) ≤ 1024
         go (accepted a) p = auth-room (bestAuth a)
         go (refused number carried) p = refused-room number p
 
-  saying-room : (word : Word) (bytes : List ℕ) → IsBytes bytes → length bytes ≤ 256 → length (saying c word bytes .text) ≤ 1024
+  saying-room : (word : Word) (bytes : List ℕ) → IsBytes bytes → length bytes ≤ 256 → length (saying c word bytes .said .text) ≤ 1024
   saying-room Inf bytes b l = info-shown bytes b l
   saying-room Acc bytes b l = access-shown bytes b l
   saying-room Cap bytes b l = capabilities-shown bytes b l
@@ -210,11 +211,11 @@ pairs-bytes text bytes e i = go (ltb i (length bytes)) refl
     go false p = let q = List·getD-eq-default bytes 0 (ltb-false i (length bytes) p) in omega arith
 
 -- No answer to a line is longer, whatever the collector of the machine.
-pub room-enough : (c : Collector) → Held c → (line : List ℕ) → length (answering c line .text) ≤ 1024
+pub room-enough : (c : Collector) → Held c → (line : List ℕ) → length (answering c line .said .text) ≤ 1024
 unfolding answering
 room-enough c t line = go (ltb longest (length line)) (pairsOf (drop 3 line)) refl refl
   where
-    go : (x : Bool) (o : Outcome (List ℕ)) → ltb longest (length line) ≡ x → pairsOf (drop 3 line) ≡ o → length ((if x then badLine c else reading c (wordOf line) o) .text) ≤ 1024
+    go : (x : Bool) (o : Outcome (List ℕ)) → ltb longest (length line) ≡ x → pairsOf (drop 3 line) ≡ o → length ((if x then badLine c else reading c (wordOf line) o) .said .text) ≤ 1024
     go true o p q = refused-room 14 (omega arith)
     go false (refused n v) p q = refused-room 14 (omega arith)
     go false (accepted bytes) p q =

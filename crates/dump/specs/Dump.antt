@@ -10,7 +10,6 @@ use Rattle.base.specs.Field.{byte}
 use Rattle.base.specs.Outcome.{Outcome, accepted, refused}
 use Rattle.base.specs.Text.{ascii}
 use Rattle.base.specs.Written.{Writes}
-use Rattle.base.specs.declared.written.Written.{Written}
 use Rattle.channel.specs.GetChannelAccess.{accessOf}
 use Rattle.collector.specs.Collector.{fresh, listOf, taking}
 use Rattle.collector.specs.declared.Collector.{Collector}
@@ -18,12 +17,20 @@ use Rattle.info.specs.GetChannelInfo.{infoOf}
 use Rattle.lines.specs.Lines.{pairsOf}
 use Rattle.suites.specs.GetChannelCipherSuites.{numbersOf}
 use Rattle.texts.specs.Texts.{accessText, authText, blockText, infoText, missingText, refusedText, suitesText}
+use Rattle.dump.specs.declared.Answered.{Answered}
+use Rattle.dump.specs.declared.Kind.{Kind}
+use Rattle.dump.specs.declared.Kind.the-variants.{Info, Access, Auth, Block, Suites, Missing, Refused}
 use Rattle.dump.specs.declared.Word.{Word}
 use Rattle.dump.specs.declared.Word.the-variants.{Inf, Acc, Cap, Sui, End, Other}
 
--- the line that answers a line, without its newline, and the collector behind it
-pub record Answer : Type 0 where
+-- a line that answers a line, without its newline
+pub record Said : Type 0 where
+  pub kind : Kind
   pub text : List ℕ
+
+-- and the collector behind it
+pub record Answer : Type 0 where
+  pub said : Said
   pub collector : Collector
 
 -- "a line above 256 bytes without its newline"
@@ -47,39 +54,43 @@ wordOf line =
     if begins (ascii "sui") line then Sui else
     if begins (ascii "end") line then End else Other
 
--- what is read is shown; "Refusals print `refused N`"
-abbrev pub shown : {A : Type 0} → (A → List ℕ) → Outcome A → List ℕ
-shown text (accepted a) = text a
-shown text (refused number carried) = refusedText number
+-- "Refusals print `refused N`"
+abbrev pub refusing : ℕ → Said
+refusing number = record { kind = Refused; text = refusedText number }
 
-abbrev pub keeping : Collector → List ℕ → Answer
-keeping c text = record { text = text; collector = c }
+-- what is read is shown
+abbrev pub shown : {A : Type 0} → Kind → (A → List ℕ) → Outcome A → Said
+shown kind text (accepted a) = record { kind = kind; text = text a }
+shown kind text (refused number carried) = refusing number
+
+abbrev pub keeping : Collector → Said → Answer
+keeping c said = record { said = said; collector = c }
 
 -- "any other form gives 14"
 abbrev pub badLine : Collector → Answer
-badLine c = keeping c (refusedText 14)
+badLine c = keeping c (refusing 14)
 
 -- a part that the collector takes, or refuses
 abbrev pub hearing : Collector → ℕ → List ℕ → Outcome Collector → Answer
-hearing c index response (accepted taken) = record { text = blockText index (length response); collector = taken }
-hearing c index response (refused number carried) = keeping c (refusedText number)
+hearing c index response (accepted taken) = record { said = record { kind = Block; text = blockText index (length response) }; collector = taken }
+hearing c index response (refused number carried) = keeping c (refusing number)
 
 abbrev pub heard : Collector → ℕ → List ℕ → Answer
 heard c index response = hearing c index response (taking c index response)
 
 -- "an incomplete `end` prints `missing N`"
-abbrev pub listText : Outcome (List ℕ) → List ℕ
-listText (accepted list) = suitesText (numbersOf list)
-listText (refused number carried) = if number =? 13 then missingText (byte 0 carried) else refusedText number
+abbrev pub listed : Outcome (List ℕ) → Said
+listed (accepted list) = record { kind = Suites; text = suitesText (numbersOf list) }
+listed (refused number carried) = if number =? 13 then record { kind = Missing; text = missingText (byte 0 carried) } else refusing number
 
 abbrev pub ending : Collector → Answer
-ending c = record { text = listText (listOf c); collector = fresh }
+ending c = record { said = listed (listOf c); collector = fresh }
 
 -- "`inf`, `acc`, `cap` take a response; `sui` an index, then a response; `end` alone lists suites and starts a fresh collector"
 abbrev pub saying : Collector → Word → List ℕ → Answer
-saying c Inf response = keeping c (shown infoText (infoOf response))
-saying c Acc response = keeping c (shown accessText (accessOf response))
-saying c Cap response = keeping c (shown (λ capabilities. authText (bestAuth capabilities)) (capabilitiesOf response))
+saying c Inf response = keeping c (shown Info infoText (infoOf response))
+saying c Acc response = keeping c (shown Access accessText (accessOf response))
+saying c Cap response = keeping c (shown Auth (λ capabilities. authText (bestAuth capabilities)) (capabilitiesOf response))
 saying c Sui [] = badLine c
 saying c Sui (index ∷ response) = heard c index response
 saying c End [] = ending c
@@ -94,7 +105,12 @@ reading c word (refused number carried) = badLine c
 unfoldable pub answering : Collector → List ℕ → Answer
 answering c line = if longest <? length line then badLine c else reading c (wordOf line) (pairsOf (drop letters line))
 
--- The promise: the text in the lent buffer and the collector behind it; 11 where the text has no room, and then nothing changes.
-pub record Answers (answer : Answer) (r : Written) (before after : List ℕ) (collector left : Collector) : Type 0 where
-  pub writes : Writes (accepted (answer .text)) r before after
-  pub leaves : left ≡ (if length before <? length (answer .text) then collector else answer .collector)
+-- The promise of what writes an answering line: its kind, and its text in the lent buffer.
+pub record Says (said : Said) (r : Answered) (before after : List ℕ) : Type 0 where
+  pub tells : r .kind ≡ said .kind
+  pub writes : Writes (accepted (said .text)) (r .written) before after
+
+-- The promise of dump: also the collector behind it; 11 where the text has no room, and then nothing changes.
+pub record Answers (answer : Answer) (r : Answered) (before after : List ℕ) (collector left : Collector) : Type 0 where
+  pub says : Says (answer .said) r before after
+  pub leaves : left ≡ (if length before <? length (answer .said .text) then collector else answer .collector)

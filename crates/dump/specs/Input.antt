@@ -26,7 +26,7 @@ linesOf input = linesFrom input []
 -- the answers to lines, a newline behind each
 unfoldable pub answersFrom : Collector → List (List ℕ) → List ℕ
 answersFrom c [] = []
-answersFrom c (line ∷ lines) = answering c line .text ++ (newline ∷ answersFrom (answering c line .collector) lines)
+answersFrom c (line ∷ lines) = answering c line .said .text ++ (newline ∷ answersFrom (answering c line .collector) lines)
 
 unfoldable pub outputOf : List ℕ → List ℕ
 outputOf input = ascii "chandump 1" ++ (newline ∷ answersFrom fresh (linesOf input))

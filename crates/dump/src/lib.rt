@@ -11,7 +11,7 @@ ghost use Rattle.collector.specs.Shape.{held};
 ghost use Rattle.info.specs.GetChannelInfo.{infoOf};
 ghost use Rattle.suites.specs.GetChannelCipherSuites.{numbersOf};
 ghost use Rattle.texts.specs.Texts.{accessText, authText, blockText, infoText, suitesText};
-ghost use Rattle.dump.specs.Dump.{Answers, answering, begins, ending, heard, listText, saying, shown, wordOf};
+ghost use Rattle.dump.specs.Dump.{Answers, Says, answering, begins, ending, heard, listed, refusing, saying, shown, wordOf};
 use auth::get_channel_authentication_capabilities::ChannelAuthenticationCapabilities;
 use base::refusal::Refusal;
 use base::verdict::Verdict;
@@ -45,6 +45,23 @@ const PAIRS: usize = 96;
 
 // More than the text of an accepted part takes.
 const BLOCK: usize = 64;
+
+// What an answering line says, by its first word.
+pub enum Kind {
+    Info,
+    Access,
+    Auth,
+    Block,
+    Suites,
+    Missing,
+    Refused,
+}
+
+// The answer to a line: its kind, and what became of its text.
+pub struct Answered {
+    pub kind: Kind,
+    pub written: Written,
+}
 
 enum Word {
     Inf,
@@ -91,33 +108,57 @@ fn word_of(line: &[u8]) -> Word
     Word::Other
 }
 
-fn info(response: &[u8], out: &mut [u8]) -> Written
-    ensures { λ r. ⌜ Writes (accepted (shown infoText (infoOf (now (response .entry))))) r (now (out .entry)) (now (out .exit)) ⌝ }
+fn refused(number: u8, out: &mut [u8]) -> Answered
+    ensures { λ r. ⌜ Says (refusing number) r (now (out .entry)) (now (out .exit)) ⌝ }
+{
+    let written = refused_text(number, out);
+    Answered {
+        kind: Kind::Refused,
+        written,
+    }
+}
+
+fn info(response: &[u8], out: &mut [u8]) -> Answered
+    ensures { λ r. ⌜ Says (shown Kind.Info infoText (infoOf (now (response .entry)))) r (now (out .entry)) (now (out .exit)) ⌝ }
 {
     let InfoAnswer::Info(info) = ChannelInfo::parse(response) else {
-        return refused_text(Refusal::NotEnoughData.number(), out);
+        return refused(Refusal::NotEnoughData.number(), out);
     };
-    info_text(info, out)
+    let written = info_text(info, out);
+    Answered {
+        kind: Kind::Info,
+        written,
+    }
 }
 
-fn access(response: &[u8], out: &mut [u8]) -> Written
-    ensures { λ r. ⌜ Writes (accepted (shown accessText (accessOf (now (response .entry))))) r (now (out .entry)) (now (out .exit)) ⌝ }
+fn access(response: &[u8], out: &mut [u8]) -> Answered
+    ensures { λ r. ⌜ Says (shown Kind.Access accessText (accessOf (now (response .entry)))) r (now (out .entry)) (now (out .exit)) ⌝ }
 {
     let AccessAnswer::Access(access) = ChannelAccess::parse(response) else {
-        return refused_text(Refusal::NotEnoughData.number(), out);
+        return refused(Refusal::NotEnoughData.number(), out);
     };
-    access_text(access, out)
+    let written = access_text(access, out);
+    Answered {
+        kind: Kind::Access,
+        written,
+    }
 }
 
-fn capabilities(response: &[u8], out: &mut [u8]) -> Written
-    ensures { λ r. ⌜ Writes (accepted (shown (λ c. authText (bestAuth c)) (capabilitiesOf (now (response .entry))))) r (now (out .entry)) (now (out .exit)) ⌝ }
+fn capabilities(response: &[u8], out: &mut [u8]) -> Answered
+    ensures { λ r. ⌜ Says (shown Kind.Auth (λ c. authText (bestAuth c)) (capabilitiesOf (now (response .entry)))) r (now (out .entry)) (now (out .exit)) ⌝ }
 {
     let answer = ChannelAuthenticationCapabilities::parse(response);
     let verdict = answer.verdict;
     let capabilities = answer.capabilities;
     match verdict {
-        Verdict::Accepted => auth_text(capabilities.best_auth(), out),
-        Verdict::Refused(refusal) => refused_text(refusal.number(), out),
+        Verdict::Accepted => {
+            let written = auth_text(capabilities.best_auth(), out);
+            Answered {
+                kind: Kind::Auth,
+                written,
+            }
+        }
+        Verdict::Refused(refusal) => refused(refusal.number(), out),
     }
 }
 
@@ -137,17 +178,27 @@ fn list(
     bytes: &[u8; Collector::CAPACITY],
     marks: &[u8; Collector::PARTS],
     out: &mut [u8],
-) -> Written
-    ensures { λ r. ⌜ Writes (accepted (listText (listOf (held (now (bytes .entry)) (now (marks .entry)))))) r (now (out .entry)) (now (out .exit)) ⌝ }
+) -> Answered
+    ensures { λ r. ⌜ Says (listed (listOf (held (now (bytes .entry)) (now (marks .entry))))) r (now (out .entry)) (now (out .exit)) ⌝ }
 {
     let status = status_in(bytes, marks);
     match status {
         Status::Complete(length) => {
             let all = &bytes[..];
-            suites(&all[0..length], out)
+            let written = suites(&all[0..length], out);
+            Answered {
+                kind: Kind::Suites,
+                written,
+            }
         }
-        Status::Missing(index) => missing_text(index, out),
-        Status::NoForm => refused_text(Refusal::NoForm.number(), out),
+        Status::Missing(index) => {
+            let written = missing_text(index, out);
+            Answered {
+                kind: Kind::Missing,
+                written,
+            }
+        }
+        Status::NoForm => refused(Refusal::NoForm.number(), out),
     }
 }
 
@@ -156,17 +207,18 @@ fn end(
     bytes: &mut [u8; Collector::CAPACITY],
     marks: &mut [u8; Collector::PARTS],
     out: &mut [u8],
-) -> Written
+) -> Answered
     ensures { λ r. ⌜ Answers (ending (held (now (bytes .entry)) (now (marks .entry)))) r (now (out .entry)) (now (out .exit)) (held (now (bytes .entry)) (now (marks .entry))) (held (now (bytes .exit)) (now (marks .exit))) ⌝ }
 {
-    let written = list(bytes, marks, out);
+    let answered = list(bytes, marks, out);
+    let written = answered.written;
     match written {
-        Written::Length(n) => {
+        Written::Length(_) => {
             *bytes = [0; Collector::CAPACITY];
             *marks = [0; Collector::PARTS];
-            Written::Length(n)
+            answered
         }
-        Written::Refused(refusal) => Written::Refused(refusal),
+        Written::Refused(_) => answered,
     }
 }
 
@@ -177,16 +229,19 @@ fn without_room(
     index: u8,
     response: &[u8],
     out: &mut [u8],
-) -> Written
+) -> Answered
     requires { ⌜ length (now out) < length (blockText index (length (now response))) ⌝ }
-    ensures { λ r. ⌜ Writes (accepted (heard (held (now (bytes .entry)) (now (marks .entry))) index (now (response .entry)) .text)) r (now (out .entry)) (now (out .exit)) ⌝ }
+    ensures { λ r. ⌜ Says (heard (held (now (bytes .entry)) (now (marks .entry))) index (now (response .entry)) .said) r (now (out .entry)) (now (out .exit)) ⌝ }
 {
     let mut bytes = *bytes;
     let mut marks = *marks;
     let verdict = answer_in(&mut bytes, &mut marks, index, response);
     match verdict {
-        Verdict::Accepted => Written::Refused(Refusal::NoRoom),
-        Verdict::Refused(refusal) => refused_text(refusal.number(), out),
+        Verdict::Accepted => Answered {
+            kind: Kind::Block,
+            written: Written::Refused(Refusal::NoRoom),
+        },
+        Verdict::Refused(refusal) => refused(refusal.number(), out),
     }
 }
 
@@ -196,20 +251,29 @@ fn hear(
     index: u8,
     response: &[u8],
     out: &mut [u8],
-) -> Written
+) -> Answered
     ensures { λ r. ⌜ Answers (heard (held (now (bytes .entry)) (now (marks .entry))) index (now (response .entry))) r (now (out .entry)) (now (out .exit)) (held (now (bytes .entry)) (now (marks .entry))) (held (now (bytes .exit)) (now (marks .exit))) ⌝ }
 {
     let mut text = [0u8; BLOCK];
     let Written::Length(n) = block_text(index, response.len(), &mut text) else {
-        return Written::Refused(Refusal::NoRoom);
+        return Answered {
+            kind: Kind::Block,
+            written: Written::Refused(Refusal::NoRoom),
+        };
     };
     if out.len() < n {
         return without_room(bytes, marks, index, response, out);
     }
     let verdict = answer_in(bytes, marks, index, response);
     match verdict {
-        Verdict::Accepted => place(&text[0..n], out),
-        Verdict::Refused(refusal) => refused_text(refusal.number(), out),
+        Verdict::Accepted => {
+            let written = place(&text[0..n], out);
+            Answered {
+                kind: Kind::Block,
+                written,
+            }
+        }
+        Verdict::Refused(refusal) => refused(refusal.number(), out),
     }
 }
 
@@ -218,11 +282,11 @@ fn hear_pairs(
     marks: &mut [u8; Collector::PARTS],
     pairs: &[u8],
     out: &mut [u8],
-) -> Written
+) -> Answered
     ensures { λ r. ⌜ Answers (saying (held (now (bytes .entry)) (now (marks .entry))) Word.Sui (now (pairs .entry))) r (now (out .entry)) (now (out .exit)) (held (now (bytes .entry)) (now (marks .entry))) (held (now (bytes .exit)) (now (marks .exit))) ⌝ }
 {
     if pairs.len() == 0 {
-        return refused_text(Refusal::BadLine.number(), out);
+        return refused(Refusal::BadLine.number(), out);
     }
     hear(bytes, marks, pairs[0], &pairs[1..], out)
 }
@@ -232,11 +296,11 @@ fn end_pairs(
     marks: &mut [u8; Collector::PARTS],
     pairs: &[u8],
     out: &mut [u8],
-) -> Written
+) -> Answered
     ensures { λ r. ⌜ Answers (saying (held (now (bytes .entry)) (now (marks .entry))) Word.End (now (pairs .entry))) r (now (out .entry)) (now (out .exit)) (held (now (bytes .entry)) (now (marks .entry))) (held (now (bytes .exit)) (now (marks .exit))) ⌝ }
 {
     if pairs.len() != 0 {
-        return refused_text(Refusal::BadLine.number(), out);
+        return refused(Refusal::BadLine.number(), out);
     }
     end(bytes, marks, out)
 }
@@ -247,7 +311,7 @@ fn say(
     word: Word,
     pairs: &[u8],
     out: &mut [u8],
-) -> Written
+) -> Answered
     ensures { λ r. ⌜ Answers (saying (held (now (bytes .entry)) (now (marks .entry))) word (now (pairs .entry))) r (now (out .entry)) (now (out .exit)) (held (now (bytes .entry)) (now (marks .entry))) (held (now (bytes .exit)) (now (marks .exit))) ⌝ }
 {
     match word {
@@ -256,7 +320,7 @@ fn say(
         Word::Cap => capabilities(pairs, out),
         Word::Sui => hear_pairs(bytes, marks, pairs, out),
         Word::End => end_pairs(bytes, marks, pairs, out),
-        Word::Other => refused_text(Refusal::BadLine.number(), out),
+        Word::Other => refused(Refusal::BadLine.number(), out),
     }
 }
 
@@ -266,18 +330,18 @@ pub fn dump(
     marks: &mut [u8; Collector::PARTS],
     line: &[u8],
     out: &mut [u8],
-) -> Written
+) -> Answered
     ensures { λ r. ⌜ Answers (answering (held (now (bytes .entry)) (now (marks .entry))) (now (line .entry))) r (now (out .entry)) (now (out .exit)) (held (now (bytes .entry)) (now (marks .entry))) (held (now (bytes .exit)) (now (marks .exit))) ⌝ }
 {
     if LONGEST < line.len() {
-        return refused_text(Refusal::BadLine.number(), out);
+        return refused(Refusal::BadLine.number(), out);
     }
     if line.len() < LETTERS {
-        return refused_text(Refusal::BadLine.number(), out);
+        return refused(Refusal::BadLine.number(), out);
     }
     let mut pairs = [0u8; PAIRS];
     let Written::Length(n) = read_pairs(&line[LETTERS..], &mut pairs) else {
-        return refused_text(Refusal::BadLine.number(), out);
+        return refused(Refusal::BadLine.number(), out);
     };
     say(bytes, marks, word_of(line), &pairs[0..n], out)
 }

@@ -10,14 +10,14 @@ returns c =
     let k = c .before .before .before .before .before in
     let a = k .before .before .before .args in
     let h = held (a .bytes .now) (a .marks .now) in
-    rw (long h (a .line .now) (omega arith)) (kept h (rw (c .before .before .before .before .number .ensures) at (c .before .before .refused-text .ensures)))
+    rw (long h (a .line .now) (omega arith)) (kept h (rw (c .before .before .before .before .number .ensures) at (c .before .before .refused .ensures)))
 
 returns-2 : tie.Need-returns-2
 returns-2 c =
     let k = c .before .before .before .before .before in
     let a = k .before .before .before .before .args in
     let h = held (a .bytes .now) (a .marks .now) in
-    rw (brief h (a .line .now) (omega arith)) (kept h (rw (c .before .before .before .before .number2 .ensures) at (c .before .before .refused-text2 .ensures)))
+    rw (brief h (a .line .now) (omega arith)) (kept h (rw (c .before .before .before .before .number2 .ensures) at (c .before .before .refused2 .ensures)))
 
 returns-3 : tie.Need-returns-3
 returns-3 c =
@@ -28,7 +28,7 @@ returns-3 c =
     let i = p .before .before .before .before .if1 .left in
     rw
     (unreadable h (a .line .now) (omega arith) (omega arith) (rw (k .enum-told .given .1, behind (a .line .now)) at (p .read-pairs .ensures)))
-    (kept h (rw (c .before .before .before .before .number3 .ensures) at (c .before .before .refused-text3 .ensures)))
+    (kept h (rw (c .before .before .before .before .number3 .ensures) at (c .before .before .refused3 .ensures)))
 
 part-say-end : tie.Need-part-say-end
 part-say-end c =

@@ -6,17 +6,16 @@ use Rattle.dump.proofs.end.Tie as tie
 
 returns : tie.Need-returns
 returns c =
-    let k = c .before .before .before in
+    let k = c .before .before in
     let l = k .before .before .before .before in
     let a = l .before .before .before .before .before .args in
-    end-written (held (a .bytes .now) (a .marks .now)) (rw (k .written .given .1) at (l .list .ensures))
+    end-written (held (a .bytes .now) (a .marks .now)) (k .enum-told .given .0 .0) (k .enum-told .given .1) (l .list .ensures)
 
 returns-2 : tie.Need-returns-2
 returns-2 c =
-    let k = c .before in
-    let l = k .before .before .before .before in
+    let l = c .before .before .before .before in
     let a = l .before .before .before .before .before .args in
-    end-unwritten (held (a .bytes .now) (a .marks .now)) (rw (k .written2 .given .1) at (l .list .ensures))
+    end-unwritten (held (a .bytes .now) (a .marks .now)) (c .enum-told2 .given .0 .0) (c .enum-told2 .given .1) (l .list .ensures)
 
 pub end-spec : {M : Type 1} → statement M
 end-spec =

@@ -9,7 +9,7 @@ returns c =
     let k = c .before .before .before .before .before in
     let a = k .before .before .before .args in
     let h = held (a .bytes .now) (a .marks .now) in
-    no-end h (a .pairs .now) (k .if1 .taken) (kept h (rw (c .before .before .before .before .number .ensures) at (c .before .before .refused-text .ensures)))
+    no-end h (a .pairs .now) (k .if1 .taken) (kept h (rw (c .before .before .before .before .number .ensures) at (c .before .before .refused .ensures)))
 
 returns-2 : tie.Need-returns-2
 returns-2 c =

@@ -65,7 +65,7 @@ returns-4 c =
     let a = t .before .before .before .before .args in
     let h = held (a .bytes .now) (a .marks .now) in
     let g = fell (taking h (a .index) (a .response .now)) _ (v .answer-in .ensures) (k .verdict .given .1) in
-    rw (g .1) (heard-refused h (a .index) (a .response .now) (k .verdict .given .0 .0) (g .0) (rw (c .before .before .before .before .number .ensures) at (c .before .before .refused-text .ensures)))
+    rw (g .1) (heard-refused h (a .index) (a .response .now) (k .verdict .given .0 .0) (g .0) (rw (c .before .before .before .before .number .ensures) at (c .before .before .refused .ensures)))
 
 pub hear-spec : {M : Type 1} → statement M
 hear-spec =

@@ -5,7 +5,7 @@ use lib.ListN.{length-take}
 use Rattle.collector.specs.Collector.{saidStatus}
 use Rattle.collector.specs.Shape.{held}
 use Rattle.collector.proofs.Entries.{told-within}
-use Rattle.dump.proofs.Laws.{formless, lacked, listed}
+use Rattle.dump.proofs.Laws.{formless, lacked, list-told}
 use Rattle.dump.proofs.list.Statement.{statement}
 use Rattle.dump.proofs.list.Tie as tie
 
@@ -27,7 +27,7 @@ returns : tie.Need-returns
 returns c =
     let k = c .before .before .before .before .before .before .before in
     let a = k .before .before .before .before .args in
-    listed (held (a .bytes .now) (a .marks .now)) (k .status .given .0 .0) (sym (k .before .before .status-in .ensures) ∙ ap saidStatus (k .status .given .1)) (c .before .before .suites .ensures)
+    list-told (held (a .bytes .now) (a .marks .now)) (k .status .given .0 .0) (sym (k .before .before .status-in .ensures) ∙ ap saidStatus (k .status .given .1)) (c .before .before .suites .ensures)
 
 returns-2 : tie.Need-returns-2
 returns-2 c =
@@ -39,7 +39,7 @@ returns-3 : tie.Need-returns-3
 returns-3 c =
     let k = c .before .before .before .before .before in
     let a = k .before .before .before .before .args in
-    formless (held (a .bytes .now) (a .marks .now)) (sym (k .before .before .status-in .ensures) ∙ ap saidStatus (k .enum-told .given .1)) (rw (c .before .before .before .before .number .ensures) at (c .before .before .refused-text .ensures))
+    formless (held (a .bytes .now) (a .marks .now)) (sym (k .before .before .status-in .ensures) ∙ ap saidStatus (k .enum-told .given .1)) (rw (c .before .before .before .before .number .ensures) at (c .before .before .refused .ensures))
 
 pub list-spec : {M : Type 1} → statement M
 list-spec =

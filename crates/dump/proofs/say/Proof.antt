@@ -32,7 +32,7 @@ returns-6 : tie.Need-returns-6
 returns-6 c =
     let k = c .before .before .before .before .before in
     let a = k .before .before .before .before .args in
-    rw (k .enum-told6 .given .1) (kept (held (a .bytes .now) (a .marks .now)) (rw (c .before .before .before .before .number .ensures) at (c .before .before .refused-text .ensures)))
+    rw (k .enum-told6 .given .1) (kept (held (a .bytes .now) (a .marks .now)) (rw (c .before .before .before .before .number .ensures) at (c .before .before .refused .ensures)))
 
 pub say-spec : {M : Type 1} → statement M
 say-spec =

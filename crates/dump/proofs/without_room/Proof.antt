@@ -25,7 +25,7 @@ returns-2 c =
     let a = v .before .before .before .before .before .before .before .args in
     let h = held (a .bytes .now) (a .marks .now) in
     text-refused h (a .index) (a .response .now) (k .verdict .given .0 .0) (fell (taking h (a .index) (a .response .now)) _ (v .answer-in .ensures) (k .verdict .given .1) .0)
-    (rw (c .before .before .before .before .number .ensures) at (c .before .before .refused-text .ensures))
+    (rw (c .before .before .before .before .number .ensures) at (c .before .before .refused .ensures))
 
 pub without-room-spec : {M : Type 1} → statement M
 without-room-spec =
