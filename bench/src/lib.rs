@@ -3,5 +3,6 @@
 pub mod called;
 pub mod plain;
 pub mod port;
+pub mod requests;
 pub mod timing;
 pub mod traffic;

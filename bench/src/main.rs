@@ -4,6 +4,7 @@
 use ghjalvestru_bench::called::{self, numbers, Reader};
 use ghjalvestru_bench::plain::{Plain, PART};
 use ghjalvestru_bench::port;
+use ghjalvestru_bench::requests::{self, Writer, Writing, ASKED, WRITINGS};
 use ghjalvestru_bench::timing::{compare, heading};
 use ghjalvestru_bench::traffic::responses;
 use oracle_core::app::auth::{
@@ -212,6 +213,36 @@ fn reader_row(row: &Row) {
     );
 }
 
+/// A writer a hundred times.
+fn hundred(write: Writer, out: &mut [u8]) {
+    for _ in 0..100 {
+        black_box(write(black_box(&ASKED), black_box(&mut *out)));
+    }
+}
+
+fn writer_row(row: &Writing) {
+    let (mut one, mut two) = ([0xA5; 32], [0xA5; 32]);
+    let said = [(row.port)(&ASKED, &mut one), (row.called)(&ASKED, &mut two)];
+    assert!(
+        said[0] == said[1] && one == two && said[0] >> 63 == 0,
+        "{}",
+        row.name
+    );
+    let mut three = [0; 32];
+    let mut four = [0; 32];
+    let request = vec![one.to_vec(); 100];
+    compare(
+        row.name,
+        100,
+        &mut [
+            Some(&mut || hundred(row.port, &mut one)),
+            Some(&mut || hundred(row.called, &mut two)),
+            Some(&mut || hundred(row.inlined, &mut three)),
+            Some(&mut || over(&request, row.floor, &mut four)),
+        ],
+    );
+}
+
 fn port_answer(c: &mut Plain, index: u8, part: &[u8]) -> u64 {
     unsafe {
         port::ghj_collector_answer(&mut c.bytes, &mut c.marks, index, part.as_ptr(), part.len())
@@ -339,6 +370,19 @@ fn few(row: &Row, way: &str, passes: usize) {
     }
 }
 
+/// The same of a request's writers, a hundred calls a pass.
+fn few_writings(row: &Writing, way: &str, passes: usize) {
+    let mut out = [0; 32];
+    let write = match way {
+        "port" => row.port,
+        "called" => row.called,
+        _ => requests::no_request,
+    };
+    for _ in 0..passes {
+        hundred(write, &mut out);
+    }
+}
+
 /// The same of the collector's answers.
 fn few_answers(way: &str, passes: usize) {
     let list = full_list();
@@ -358,14 +402,19 @@ fn counted(words: &[String]) {
     let rows = rows();
     if let [row, way, passes] = words {
         let passes = passes.parse().expect("passes");
-        match rows.iter().find(|r| r.name == row) {
-            Some(row) => few(row, way, passes),
-            None => few_answers(way, passes),
+        let writing = WRITINGS.iter().find(|w| w.name == row);
+        match (rows.iter().find(|r| r.name == row), writing) {
+            (Some(row), _) => few(row, way, passes),
+            (None, Some(writing)) => few_writings(writing, way, passes),
+            (None, None) => few_answers(way, passes),
         }
         return;
     }
     for row in &rows {
         println!("{}\t{}\tport", row.name, row.inputs.len());
+    }
+    for writing in &WRITINGS {
+        println!("{}\t100\tport", writing.name);
     }
     println!("a new answer, arrays lent\t64\tport");
     println!("a new answer, collector lent\t64\tlent");
@@ -380,5 +429,6 @@ fn main() {
     for row in rows() {
         reader_row(&row);
     }
+    WRITINGS.iter().for_each(writer_row);
     collector_rows();
 }
