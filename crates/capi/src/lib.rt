@@ -1,4 +1,4 @@
-// The library from C: functions on numbers and byte slices. So far the readers of responses, the list of suites and the collector.
+// The library from C: functions on numbers and byte slices. Here the readers of responses, the list of suites and the collector.
 ghost use mathlib.Core.Path.{_≡_};
 ghost use Rattle.base.specs.Outcome.{accepted};
 ghost use Rattle.base.specs.Refusal as spec;
