@@ -1,63 +1,272 @@
-//! The port and the crate on the same work, in one run. Prints a table; the last column but one is what counts.
+//! The port and the crate on the same work, in one run: a table, a row a work. With the word `few`: each function called a
+//! few times, for a counter of instructions, and how often.
 
-use ghjalvestru_bench::plain::{Plain, CAPACITY, PART, PARTS};
+use ghjalvestru_bench::called::{self, numbers, Reader};
+use ghjalvestru_bench::plain::{Plain, PART};
+use ghjalvestru_bench::port;
+use ghjalvestru_bench::requests::{self, Writer, Writing, ASKED, WRITINGS};
 use ghjalvestru_bench::timing::{compare, heading};
-use oracle_core::app::auth::ChannelCipherSuites;
+use ghjalvestru_bench::traffic::responses;
+use oracle_core::app::auth::{
+    ActivateSession, GetChannelAuthenticationCapabilities, GetChannelCipherSuites,
+    GetSessionChallenge,
+};
+use oracle_core::app::get_channel_access::ChannelAccess;
+use oracle_core::app::get_channel_info::ChannelInfo;
+use oracle_core::connection::IpmiCommand;
 use std::hint::black_box;
 
-extern "C" {
-    fn ghj_collector_answer(
-        bytes: *mut [u8; CAPACITY],
-        marks: *mut [u8; PARTS],
-        index: u8,
-        response: *const u8,
-        length: usize,
-    ) -> u64;
-    fn ghj_collector_take(
-        collector: *mut Plain,
-        index: u8,
-        response: *const u8,
-        length: usize,
-    ) -> u64;
-    fn ghj_collector_status(bytes: *const [u8; CAPACITY], marks: *const [u8; PARTS]) -> u64;
-    fn ghj_suite_numbers(list: *const u8, length: usize, out: *mut u8, room: usize) -> u64;
+/// A list of records, whole.
+fn records(count: u16) -> Vec<u8> {
+    (0..count)
+        .flat_map(|n| [0xC0, (n % 20) as u8, 0x01, 0x41, 0x81])
+        .collect()
 }
 
-/// The port through C.
-fn port_numbers(list: &[u8], out: &mut [u8]) -> usize {
-    (unsafe { ghj_suite_numbers(list.as_ptr(), list.len(), out.as_mut_ptr(), out.len()) }) as usize
+/// A list of as many bytes as a collector holds.
+fn full_list() -> Vec<u8> {
+    (0..1024u32).map(|k| (k % 251) as u8 + 1).collect()
 }
 
-/// The crate's iterator, its numbers stored in the same way.
-#[inline(always)]
-fn crate_numbers(list: &[u8], out: &mut [u8]) -> usize {
-    let mut count = 0;
-    for suite in ChannelCipherSuites::parse_full_data(list) {
-        if count < out.len() {
-            out[count] = suite.id();
-        }
-        count += 1;
+/// So many bytes at random, 256 times, of which those stay that the reader accepts: nothing that a processor can foresee.
+fn any_bytes(length: usize, read: Reader) -> Vec<Vec<u8>> {
+    let mut state = 0x9E37_79B9_7F4A_7C15_u64;
+    let mut byte = || {
+        state ^= state << 13;
+        state ^= state >> 7;
+        state ^= state << 17;
+        (state >> 32) as u8
+    };
+    let made = std::iter::repeat_with(|| (0..length).map(|_| byte()).collect::<Vec<u8>>());
+    let mut out = [0; 32];
+    made.filter(|input| unsafe { read(input.as_ptr(), length, out.as_mut_ptr(), 32) } >> 63 == 0)
+        .take(256)
+        .collect()
+}
+
+/// A reader on all inputs, a call each.
+fn over(inputs: &[Vec<u8>], read: Reader, out: &mut [u8]) {
+    for input in inputs {
+        let (input, out) = (black_box(input.as_slice()), black_box(&mut *out));
+        black_box(unsafe { read(input.as_ptr(), input.len(), out.as_mut_ptr(), out.len()) });
     }
-    count
 }
 
-/// The crate behind a call that is not inlined, as the port is.
-#[inline(never)]
-fn crate_numbers_called(list: &[u8], out: &mut [u8]) -> usize {
-    crate_numbers(list, out)
+/// A function of the port, the crate's behind the same kind of call, the inputs, the crate's inlined, and the floor: a call
+/// that copies the input.
+struct Row {
+    name: &'static str,
+    port: Reader,
+    called: Reader,
+    inputs: Vec<Vec<u8>>,
+    inlined: fn(&[Vec<u8>]),
+    floor: Reader,
+}
+
+/// The crate's reader in the loop itself.
+macro_rules! inlined {
+    ($parse:expr) => {
+        |inputs| {
+            for input in inputs {
+                let _ = black_box($parse(black_box(input.as_slice())));
+            }
+        }
+    };
+}
+
+fn rows() -> Vec<Row> {
+    let parts = records(204).chunks_exact(PART).map(Vec::from).collect();
+    vec![
+        Row {
+            name: "Get Channel Access, 41h",
+            port: port::ghj_access,
+            called: called::crate_access,
+            inputs: responses("41"),
+            inlined: inlined!(ChannelAccess::parse),
+            floor: called::copying::<2>,
+        },
+        Row {
+            name: "Get Channel Info, 42h",
+            port: port::ghj_info,
+            called: called::crate_info,
+            inputs: responses("42"),
+            inlined: inlined!(ChannelInfo::parse),
+            floor: called::copying::<9>,
+        },
+        Row {
+            name: "capabilities, 38h",
+            port: port::ghj_capabilities,
+            called: called::crate_capabilities,
+            inputs: responses("38"),
+            inlined: inlined!(GetChannelAuthenticationCapabilities::parse_success_response),
+            floor: called::copying::<8>,
+        },
+        Row {
+            name: "session challenge, 39h",
+            port: port::ghj_challenge,
+            called: called::crate_challenge,
+            inputs: responses("39"),
+            inlined: inlined!(GetSessionChallenge::parse_success_response),
+            floor: called::copying::<20>,
+        },
+        Row {
+            name: "activation, 3Ah",
+            port: port::ghj_activation,
+            called: called::crate_activation,
+            inputs: responses("3a"),
+            inlined: inlined!(ActivateSession::parse_success_response),
+            floor: called::copying::<10>,
+        },
+        Row {
+            name: "full part of a list, 54h",
+            port: port::ghj_suites,
+            called: called::crate_suites,
+            inputs: parts,
+            inlined: inlined!(GetChannelCipherSuites::parse_success_response),
+            floor: called::copying::<{ PART }>,
+        },
+        Row {
+            name: "last part, 5 bytes, 54h",
+            port: port::ghj_suites,
+            called: called::crate_suites,
+            inputs: records(16).chunks_exact(5).map(Vec::from).collect(),
+            inlined: inlined!(GetChannelCipherSuites::parse_success_response),
+            floor: called::copying::<5>,
+        },
+        Row {
+            name: "41h, any bytes",
+            port: port::ghj_access,
+            called: called::crate_access,
+            inputs: any_bytes(2, port::ghj_access),
+            inlined: inlined!(ChannelAccess::parse),
+            floor: called::copying::<2>,
+        },
+        Row {
+            name: "42h, any bytes",
+            port: port::ghj_info,
+            called: called::crate_info,
+            inputs: any_bytes(9, port::ghj_info),
+            inlined: inlined!(ChannelInfo::parse),
+            floor: called::copying::<9>,
+        },
+        Row {
+            name: "38h, any bytes",
+            port: port::ghj_capabilities,
+            called: called::crate_capabilities,
+            inputs: any_bytes(8, port::ghj_capabilities),
+            inlined: inlined!(GetChannelAuthenticationCapabilities::parse_success_response),
+            floor: called::copying::<8>,
+        },
+        Row {
+            name: "3Ah, any bytes",
+            port: port::ghj_activation,
+            called: called::crate_activation,
+            inputs: any_bytes(10, port::ghj_activation),
+            inlined: inlined!(ActivateSession::parse_success_response),
+            floor: called::copying::<10>,
+        },
+        Row {
+            name: "list of 204 records",
+            port: port::ghj_suite_numbers,
+            called: called::crate_numbers,
+            inputs: vec![records(204)],
+            inlined: |inputs| {
+                let mut out = [0; 256];
+                for input in inputs {
+                    black_box(numbers(black_box(input), black_box(&mut out)));
+                }
+            },
+            floor: called::copying::<1020>,
+        },
+    ]
+}
+
+/// Both write and return the same.
+fn agree(row: &Row) {
+    for input in &row.inputs {
+        let (mut one, mut two) = ([0xA5; 1024], [0xA5; 1024]);
+        let said = [(row.port, &mut one), (row.called, &mut two)].map(|(read, out)| unsafe {
+            read(input.as_ptr(), input.len(), out.as_mut_ptr(), out.len())
+        });
+        assert!(
+            said[0] == said[1] && one == two && said[0] >> 63 == 0,
+            "{}",
+            row.name
+        );
+    }
+}
+
+fn reader_row(row: &Row) {
+    agree(row);
+    let inputs = &row.inputs;
+    assert!(inputs.iter().all(|input| input.len() == inputs[0].len()));
+    let (mut one, mut two, mut three) = ([0u8; 1024], [0u8; 1024], [0u8; 1024]);
+    compare(
+        row.name,
+        inputs.len(),
+        &mut [
+            Some(&mut || over(inputs, row.port, &mut one)),
+            Some(&mut || over(inputs, row.called, &mut two)),
+            Some(&mut || (row.inlined)(inputs)),
+            Some(&mut || over(inputs, row.floor, &mut three)),
+        ],
+    );
+}
+
+/// A writer a hundred times.
+fn hundred(write: Writer, out: &mut [u8]) {
+    for _ in 0..100 {
+        black_box(write(black_box(&ASKED), black_box(&mut *out)));
+    }
+}
+
+fn writer_row(row: &Writing) {
+    let (mut one, mut two) = ([0xA5; 32], [0xA5; 32]);
+    let said = [(row.port)(&ASKED, &mut one), (row.called)(&ASKED, &mut two)];
+    assert!(
+        said[0] == said[1] && one == two && said[0] >> 63 == 0,
+        "{}",
+        row.name
+    );
+    let mut three = [0; 32];
+    let mut four = [0; 32];
+    let request = vec![one.to_vec(); 100];
+    compare(
+        row.name,
+        100,
+        &mut [
+            Some(&mut || hundred(row.port, &mut one)),
+            Some(&mut || hundred(row.called, &mut two)),
+            Some(&mut || hundred(row.inlined, &mut three)),
+            Some(&mut || over(&request, row.floor, &mut four)),
+        ],
+    );
 }
 
 fn port_answer(c: &mut Plain, index: u8, part: &[u8]) -> u64 {
-    unsafe { ghj_collector_answer(&mut c.bytes, &mut c.marks, index, part.as_ptr(), part.len()) }
+    unsafe {
+        port::ghj_collector_answer(&mut c.bytes, &mut c.marks, index, part.as_ptr(), part.len())
+    }
 }
 
 /// The collector lent whole: by the step by value.
 fn port_take(c: &mut Plain, index: u8, part: &[u8]) -> u64 {
-    unsafe { ghj_collector_take(c, index, part.as_ptr(), part.len()) }
+    unsafe { port::ghj_collector_take(c, index, part.as_ptr(), part.len()) }
 }
 
+fn plain_answer(c: &mut Plain, index: u8, part: &[u8]) -> u64 {
+    u64::from(c.answer(index, part))
+}
+
+#[inline(never)]
+fn no_answer(c: &mut Plain, _: u8, _: &[u8]) -> u64 {
+    u64::from(black_box(c).marks[0])
+}
+
+type Answer = fn(&mut Plain, u8, &[u8]) -> u64;
+
 /// A list of 1,024 bytes, heard whole in order from a fresh collector: 64 answers and the fresh state.
-fn heard(list: &[u8], mut hear: impl FnMut(&mut Plain, u8, &[u8]) -> u64) -> Plain {
+fn heard(list: &[u8], hear: Answer) -> Plain {
     let mut collector = Plain::FRESH;
     for (i, part) in list.chunks(PART).enumerate() {
         assert_eq!(hear(&mut collector, i as u8, part), 0);
@@ -65,105 +274,161 @@ fn heard(list: &[u8], mut hear: impl FnMut(&mut Plain, u8, &[u8]) -> u64) -> Pla
     collector
 }
 
-fn list_row() {
-    let list: Vec<u8> = (0..204u16)
-        .flat_map(|n| [0xC0, (n % 20) as u8, 0x01, 0x41, 0x81])
-        .collect();
-    let (mut one, mut two, mut three) = ([0u8; 256], [0u8; 256], [0u8; 256]);
-    assert_eq!(port_numbers(&list, &mut one), 204);
-    assert_eq!(crate_numbers(&list, &mut two), 204);
-    assert_eq!(one, two);
-    heading("port", &["crate", "called"]);
+fn new_answers(name: &str, list: &[u8], way: Answer) {
+    let whole = heard(list, plain_answer);
+    assert!(whole == heard(list, way));
+    let mut place = Plain::FRESH;
     compare(
-        "list of 204 records",
+        name,
+        list.len() / PART,
+        &mut [
+            Some(&mut || {
+                black_box(heard(black_box(list), way));
+            }),
+            Some(&mut || {
+                black_box(heard(black_box(list), plain_answer));
+            }),
+            None,
+            Some(&mut || {
+                for _ in 0..list.len() / PART {
+                    place = *black_box(&whole);
+                    black_box(&place);
+                }
+            }),
+        ],
+    );
+}
+
+/// An answer to what `start` is, which is made anew for each.
+fn one_answer(name: &str, start: &Plain, index: u8, part: &[u8]) {
+    let answered = |way: Answer| {
+        let mut collector = *black_box(start);
+        black_box(way(black_box(&mut collector), index, black_box(part)));
+    };
+    compare(
+        name,
         1,
         &mut [
-            &mut || {
-                black_box(port_numbers(black_box(&list), black_box(&mut one)));
-            },
-            &mut || {
-                black_box(crate_numbers(black_box(&list), black_box(&mut two)));
-            },
-            &mut || {
-                black_box(crate_numbers_called(
-                    black_box(&list),
-                    black_box(&mut three),
-                ));
-            },
+            Some(&mut || answered(port_answer)),
+            Some(&mut || answered(plain_answer)),
+            None,
+            Some(&mut || {
+                black_box(*black_box(start));
+            }),
+        ],
+    );
+}
+
+fn status_row(whole: &Plain) {
+    compare(
+        "status of a whole list",
+        1,
+        &mut [
+            Some(&mut || {
+                let c = black_box(whole);
+                black_box(unsafe { port::ghj_collector_status(&c.bytes, &c.marks) });
+            }),
+            Some(&mut || {
+                black_box(black_box(whole).tested_standing());
+            }),
+            None,
+            None,
         ],
     );
 }
 
 fn collector_rows() {
-    let list: Vec<u8> = (0..1024u32).map(|k| (k % 251) as u8 + 1).collect();
-    let port = heard(&list, port_answer);
-    let plain = heard(&list, |c, i, part| u64::from(c.answer(i, part)));
-    assert!(port == plain);
-    heading("port", &["plain Rust", "copy"]);
-    assert!(port == heard(&list, port_take));
-    let ways: [(&str, fn(&mut Plain, u8, &[u8]) -> u64); 2] = [
-        ("a new answer, arrays lent", port_answer),
-        ("a new answer, collector lent", port_take),
-    ];
-    let mut place = Plain::FRESH;
-    for (name, way) in ways {
-        compare(
-            name,
-            64,
-            &mut [
-                &mut || {
-                    black_box(heard(black_box(&list), way));
-                },
-                &mut || {
-                    black_box(heard(black_box(&list), |c, i, part| {
-                        u64::from(c.answer(i, part))
-                    }));
-                },
-                &mut || {
-                    for _ in 0..64 {
-                        place = *black_box(&port);
-                        black_box(&place);
-                    }
-                },
-            ],
-        );
-    }
-    let (mut one, mut two) = (port, plain);
-    let part = &list[16 * 5..16 * 6];
-    compare(
-        "a repeat, to a whole list",
-        1,
-        &mut [
-            &mut || {
-                black_box(port_answer(black_box(&mut one), 5, black_box(part)));
-            },
-            &mut || {
-                black_box(black_box(&mut two).answer(5, black_box(part)));
-            },
-        ],
+    let list = full_list();
+    new_answers("a new answer, arrays lent", &list, port_answer);
+    new_answers("a new answer, collector lent", &list, port_take);
+    one_answer(
+        "a copied fresh one, an answer",
+        &Plain::FRESH,
+        0,
+        &list[..PART],
     );
-    compare(
-        "status of a whole list",
-        1,
-        &mut [&mut || {
-            let c = black_box(&port);
-            black_box(unsafe { ghj_collector_status(&c.bytes, &c.marks) });
-        }],
+    let whole = heard(&list, plain_answer);
+    one_answer(
+        "a copied whole one, a repeat",
+        &whole,
+        5,
+        &list[5 * PART..6 * PART],
     );
+    status_row(&whole);
 }
 
-/// For a counter of instructions: a few lists, and nothing else.
-fn few_lists() {
-    let list: Vec<u8> = (0..1024u32).map(|k| (k % 251) as u8 + 1).collect();
-    for _ in 0..4 {
-        black_box(heard(black_box(&list), port_answer));
+/// So many passes over a row's inputs by one of its ways: the port, the crate, or a call that does nothing.
+fn few(row: &Row, way: &str, passes: usize) {
+    let mut out = [0; 1024];
+    let read = match way {
+        "port" => row.port,
+        "called" => row.called,
+        _ => called::nothing,
+    };
+    for _ in 0..passes {
+        over(&row.inputs, read, &mut out);
     }
+}
+
+/// The same of a request's writers, a hundred calls a pass.
+fn few_writings(row: &Writing, way: &str, passes: usize) {
+    let mut out = [0; 32];
+    let write = match way {
+        "port" => row.port,
+        "called" => row.called,
+        _ => requests::no_request,
+    };
+    for _ in 0..passes {
+        hundred(write, &mut out);
+    }
+}
+
+/// The same of the collector's answers.
+fn few_answers(way: &str, passes: usize) {
+    let list = full_list();
+    let hear: Answer = match way {
+        "port" => port_answer,
+        "lent" => port_take,
+        "called" => plain_answer,
+        _ => no_answer,
+    };
+    for _ in 0..passes {
+        black_box(heard(black_box(&list), hear));
+    }
+}
+
+/// The words of a counter: none for a list of the rows, with how many calls a pass has; or a row, a way, passes.
+fn counted(words: &[String]) {
+    let rows = rows();
+    if let [row, way, passes] = words {
+        let passes = passes.parse().expect("passes");
+        let writing = WRITINGS.iter().find(|w| w.name == row);
+        match (rows.iter().find(|r| r.name == row), writing) {
+            (Some(row), _) => few(row, way, passes),
+            (None, Some(writing)) => few_writings(writing, way, passes),
+            (None, None) => few_answers(way, passes),
+        }
+        return;
+    }
+    for row in &rows {
+        println!("{}\t{}\tport", row.name, row.inputs.len());
+    }
+    for writing in &WRITINGS {
+        println!("{}\t100\tport", writing.name);
+    }
+    println!("a new answer, arrays lent\t64\tport");
+    println!("a new answer, collector lent\t64\tlent");
 }
 
 fn main() {
-    if std::env::args().nth(1).as_deref() == Some("few") {
-        return few_lists();
+    let words: Vec<String> = std::env::args().skip(1).collect();
+    if words.first().is_some_and(|word| word == "few") {
+        return counted(&words[1..]);
     }
-    list_row();
+    heading();
+    for row in rows() {
+        reader_row(&row);
+    }
+    WRITINGS.iter().for_each(writer_row);
     collector_rows();
 }

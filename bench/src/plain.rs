@@ -81,6 +81,12 @@ impl Plain {
         0
     }
 
+    /// Standing, with the test of the whole state before it; none where that fails.
+    #[inline(never)]
+    pub fn tested_standing(&self) -> Option<Result<usize, u8>> {
+        self.well_formed().then(|| self.standing())
+    }
+
     /// The length of the list, or the lowest unheard index.
     pub fn standing(&self) -> Result<usize, u8> {
         let Some(lowest) = self.marks.iter().position(|&mark| mark == 0) else {

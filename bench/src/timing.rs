@@ -3,7 +3,9 @@
 use std::time::Instant;
 
 const ROUNDS: usize = 201;
-const ROUND_NS: f64 = 200_000.0;
+const ROUND_NS: f64 = 100_000.0;
+
+pub type Work<'a> = &'a mut dyn FnMut();
 
 fn once(work: &mut dyn FnMut(), times: u32) -> f64 {
     let start = Instant::now();
@@ -13,42 +15,45 @@ fn once(work: &mut dyn FnMut(), times: u32) -> f64 {
     start.elapsed().as_nanos() as f64 / f64::from(times)
 }
 
-pub fn heading(first: &str, others: &[&str]) {
-    print!("\n{:32} {first:>10}", "ns, medians");
-    for other in others {
-        print!(" {other:>10}");
+pub fn heading() {
+    println!(
+        "{:32}{:>16}{:>16}{:>16}{:>16}{:>14}",
+        "ns: minimum, median", "port", "crate, called", "inlined", "copying", "port / called"
+    );
+}
+
+/// A row: of each work one of so many parts, the minimum and the median of the rounds; then the ratios of the first to the
+/// second.
+pub fn compare(name: &str, parts: usize, works: &mut [Option<Work>]) {
+    let mut rounds = vec![Vec::with_capacity(ROUNDS); works.len()];
+    let times: Vec<u32> = works
+        .iter_mut()
+        .flatten()
+        .map(|work| (ROUND_NS / once(work, 10).max(1.0)).ceil() as u32)
+        .collect();
+    let most = times.into_iter().max().unwrap_or(1);
+    for _ in 0..ROUNDS {
+        for (work, round) in works.iter_mut().zip(&mut rounds) {
+            if let Some(work) = work {
+                round.push(once(work, most) / parts as f64);
+            }
+        }
     }
-    for other in others {
-        print!(" {:>12}", format!("/ {other}"));
+    print!("{name:32}");
+    let said: Vec<Option<(f64, f64)>> = rounds.iter_mut().map(|round| summed(round)).collect();
+    for one in &said {
+        match one {
+            Some((least, median)) => print!("{least:8.1}{median:8.1}"),
+            None => print!("{:>16}", "-"),
+        }
+    }
+    if let (Some(port), Some(called)) = (said[0], said[1]) {
+        print!("{:7.2}{:7.2}", port.0 / called.0, port.1 / called.1);
     }
     println!();
 }
 
-/// Prints the medians of one of so many parts of each work, and the first's ratio to each of the others.
-pub fn compare(name: &str, parts: u32, works: &mut [&mut dyn FnMut()]) {
-    let times: Vec<u32> = works
-        .iter_mut()
-        .map(|work| (ROUND_NS / once(work, 100).max(0.5)).ceil() as u32)
-        .collect();
-    let mut rounds = vec![Vec::with_capacity(ROUNDS); works.len()];
-    for _ in 0..ROUNDS {
-        for (i, work) in works.iter_mut().enumerate() {
-            rounds[i].push(once(work, times[i]));
-        }
-    }
-    let medians: Vec<f64> = rounds
-        .iter_mut()
-        .map(|round| {
-            round.sort_by(f64::total_cmp);
-            round[ROUNDS / 2] / f64::from(parts)
-        })
-        .collect();
-    print!("{name:32}");
-    for median in &medians {
-        print!(" {median:10.1}");
-    }
-    for median in &medians[1..] {
-        print!(" {:12.2}", medians[0] / median);
-    }
-    println!();
+fn summed(round: &mut [f64]) -> Option<(f64, f64)> {
+    round.sort_by(f64::total_cmp);
+    Some((*round.first()?, round[round.len() / 2]))
 }

@@ -1,4 +1,4 @@
-// The library from C: functions on numbers and byte slices. So far the readers of responses, the list of suites and the collector.
+// The library from C: functions on numbers and byte slices. Here the readers of responses, the list of suites and the collector.
 ghost use mathlib.Core.Path.{_≡_};
 ghost use Rattle.base.specs.Outcome.{accepted};
 ghost use Rattle.base.specs.Refusal as spec;
@@ -33,11 +33,19 @@ use suites::collected::collected_suites_in;
 use suites::get_channel_cipher_suites::ChannelCipherSuites;
 use suites::get_channel_cipher_suites::suite_numbers;
 
+pub mod display;
+pub mod requests;
+pub mod strength;
+pub mod table;
+
 // A number above every length.
 const REFUSED: u64 = 0x8000_0000_0000_0000;
 
 // Above every length of a list.
 const MISSING: u64 = 0x1_0000;
+
+// Document 01's "answers none": above every number of a status.
+const NONE: u64 = 0x2_0000;
 
 fn refused(refusal: Refusal) -> u64
     ensures { λ r. ⌜ r ≡ code (spec.refusal refusal) ⌝ }

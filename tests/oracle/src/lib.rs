@@ -10,6 +10,7 @@ mod form;
 mod leaves;
 mod session;
 mod suites;
+mod traffic;
 
 use std::panic::catch_unwind;
 
@@ -21,6 +22,7 @@ pub fn questions() -> Vec<String> {
     channel::questions(&mut list);
     session::questions(&mut list);
     suites::questions(&mut list);
+    traffic::questions(&mut list);
     list
 }
 

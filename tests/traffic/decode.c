@@ -1,0 +1,56 @@
+/* Reads lines and prints what the port says to each: bytes in hex, or `refused`, the number and the byte that it carries.
+ *     response COMMAND DATA     the record of a response with these data
+ *     request COMMAND PARTS     the request that is made of these parts, in the order of the C function's arguments
+ * All in hex, `-` for no bytes. */
+#include "ghjalvestru.h"
+
+#include <stdio.h>
+#include <stdlib.h>
+#include <string.h>
+
+static uint64_t response(unsigned command, const uint8_t *data, size_t length, uint8_t *out, size_t room) {
+    switch (command) {
+    case 0x38: return ghj_capabilities(data, length, out, room);
+    case 0x39: return ghj_challenge(data, length, out, room);
+    case 0x3A: return ghj_activation(data, length, out, room);
+    case 0x41: return ghj_access(data, length, out, room);
+    case 0x42: return ghj_info(data, length, out, room);
+    default: exit(2);
+    }
+}
+
+static uint32_t number(const uint8_t *low_first) {
+    return low_first[0] | (uint32_t)low_first[1] << 8 | (uint32_t)low_first[2] << 16 | (uint32_t)low_first[3] << 24;
+}
+
+static uint64_t request(unsigned command, const uint8_t *parts, size_t length, uint8_t *out, size_t room) {
+    switch (command) {
+    case 0x38: return ghj_capabilities_request(parts[0], parts[1], out, room);
+    case 0x39: return ghj_challenge_request(parts[0], parts + 1, length - 1, out, room);
+    case 0x3A: return ghj_activation_request(parts[0], parts[1], parts + 2, number(parts + 18), out, room);
+    case 0x41: return ghj_access_request(parts[0], parts[1], out, room);
+    case 0x42: return ghj_info_request(parts[0], out, room);
+    case 0x54: return ghj_suites_request(parts[0], parts[1], out, room);
+    default: exit(2);
+    }
+}
+
+int main(void) {
+    char what[16], pairs[1024];
+    unsigned command, byte;
+    while (scanf("%15s %x %1023s", what, &command, pairs) == 3) {
+        uint8_t bytes[512] = {0}, out[32];
+        size_t length = 0;
+        for (const char *at = pairs; sscanf(at, "%2x", &byte) == 1; at += 2)
+            bytes[length++] = (uint8_t)byte;
+        uint64_t said = (strcmp(what, "request") == 0 ? request : response)(command, bytes, length, out, sizeof out);
+        if (GHJ_IS_REFUSED(said)) {
+            printf("refused %u %u\n", GHJ_REFUSAL(said), GHJ_CARRIED(said));
+            continue;
+        }
+        for (size_t i = 0; i < said; i++)
+            printf("%02x", out[i]);
+        puts("");
+    }
+    return 0;
+}
