@@ -1,28 +1,7 @@
 //! The port's collector, through C.
 
 use collector_model::collector::{Answer, Hears, Status, Verdict};
-
-const CAPACITY: usize = 1024;
-const PARTS: usize = 64;
-const REFUSED: u64 = 1 << 63;
-const MISSING: u64 = 1 << 16;
-
-extern "C" {
-    fn ghj_collector_answer(
-        bytes: *mut [u8; CAPACITY],
-        marks: *mut [u8; PARTS],
-        index: u8,
-        response: *const u8,
-        length: usize,
-    ) -> u64;
-    fn ghj_collector_status(bytes: *const [u8; CAPACITY], marks: *const [u8; PARTS]) -> u64;
-    fn ghj_collector_list(
-        bytes: *const [u8; CAPACITY],
-        marks: *const [u8; PARTS],
-        out: *mut u8,
-        room: usize,
-    ) -> u64;
-}
+use ghjalvestru::sys::{self, CAPACITY, MISSING, PARTS, REFUSED};
 
 #[derive(Clone, Copy, PartialEq)]
 pub struct Port {
@@ -32,7 +11,7 @@ pub struct Port {
 
 impl Port {
     fn list(&self, out: &mut [u8]) -> u64 {
-        unsafe { ghj_collector_list(&self.bytes, &self.marks, out.as_mut_ptr(), out.len()) }
+        sys::collector_list(&self.bytes, &self.marks, out)
     }
 
     /// The list, its buffer too short by one first: that changes nothing.
@@ -59,15 +38,12 @@ impl Hears for Port {
 
     fn hear(&mut self, answer: &Answer) -> Verdict {
         let before = *self;
-        let number = unsafe {
-            ghj_collector_answer(
-                &mut self.bytes,
-                &mut self.marks,
-                answer.index,
-                answer.bytes.as_ptr(),
-                answer.bytes.len(),
-            )
-        };
+        let number = sys::collector_answer(
+            &mut self.bytes,
+            &mut self.marks,
+            answer.index,
+            &answer.bytes,
+        );
         if number == 0 {
             return Verdict::Accepted;
         }
@@ -77,7 +53,7 @@ impl Hears for Port {
     }
 
     fn status(&self) -> Status {
-        let number = unsafe { ghj_collector_status(&self.bytes, &self.marks) };
+        let number = sys::collector_status(&self.bytes, &self.marks);
         if number < MISSING {
             return Status::Complete(self.whole_list(number as usize));
         }

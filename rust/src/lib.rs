@@ -1,0 +1,3 @@
+//! Ghjalvestru from Rust.
+
+pub mod sys;
