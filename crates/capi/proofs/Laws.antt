@@ -1,7 +1,10 @@
 -- What an answer comes to as a number.
 use mathlib.Core.Path.{_≡_, refl, sym, _∙_, ap}
 use mathlib.Core.List.{List}
-use Prim.Native.Nat.{ℕ}
+use mathlib.Core.Option.{Option, none, some}
+use Prim.Native.Nat.{ℕ, zero, suc}
+use native.Mathlib.Omega.{arith}
+use Rattle.base.specs.Named.{named}
 use Rattle.base.specs.Outcome.{Outcome, accepted, refused}
 use Rattle.base.specs.Refusal.{refusal}
 use Rattle.base.specs.Verdict.{Gives, recordOf, saidVerdict, verdictOf}
@@ -11,13 +14,20 @@ use Rattle.base.specs.declared.refusal.Refusal.{Refusal}
 use Rattle.base.specs.declared.verdict.Verdict.{Verdict}
 use Rattle.base.specs.declared.verdict.Verdict.the-variants.{Accepted, Refused}
 use Rattle.base.specs.declared.written.Written.the-variants as Written
+use Rattle.base.proofs.Named.{nothing}
 use Rattle.base.proofs.Outcome.{apart}
 use Rattle.base.proofs.written.Laws.{refusing}
-use Rattle.capi.specs.Number.{Codes, Takes, code, plain}
+use Rattle.capi.specs.Number.{Codes, CodesAny, Takes, code, noneBit, plain}
+use Rattle.capi.specs.Requests.{kinds}
 use Rattle.collector.specs.declared.Collector.{Collector}
 
 pub coding : {message : Outcome (List ℕ)} {w : Written} {n : ℕ} {before after : List ℕ} → n ≡ code (saidWritten w) → Writes message w before after → Codes message n before after
 coding e w = record { answers = e ∙ ap code (w .answers); leaves = w .leaves }
+
+-- what is written of a thing that was made first
+pub coding-made : {A : Type 0} (bytes : A → Outcome (List ℕ)) {made a : A} {w : Written} {n : ℕ} {before after : List ℕ}
+    → made ≡ a → n ≡ code (saidWritten w) → Writes (bytes made) w before after → Codes (bytes a) n before after
+coding-made bytes e p w = rw (← e) (coding p w)
 
 plain-verdict : {A : Type 0} (x : Outcome A) → plain (verdictOf x) ≡ plain x
 plain-verdict (accepted a) = refl
@@ -44,3 +54,18 @@ fell {A} {outcome} {empty} {a} {v} r g e = go outcome (sym (g .says) ∙ ap said
 -- a message that is refused, as a number
 pub refused-coded : {message : Outcome (List ℕ)} (r : Refusal) {n : ℕ} (buffer : List ℕ) → message ≡ refusal r → n ≡ code (refusal r) → Codes message n buffer buffer
 refused-coded r buffer m e = coding {w = Written.Refused r} e (refusing r buffer m)
+
+-- a message that may be none
+
+pub any-none : {message : Option (List ℕ)} {n : ℕ} {buffer : List ℕ} → message ≡ none → n ≡ noneBit → CodesAny message n buffer buffer
+any-none m e = rw m (record { answers = e; leaves = refl })
+
+pub any-some : {message : Option (List ℕ)} {bytes : List ℕ} {n : ℕ} {before after : List ℕ} → message ≡ some bytes → Codes (accepted bytes) n before after → CodesAny message n before after
+any-some m q = rw m (record { answers = q .answers; leaves = q .leaves })
+
+-- a number of neither kind of settings
+pub no-kind : (n : ℕ) → (n ≡ 1 → ⊥) → (n ≡ 2 → ⊥) → named kinds n ≡ none
+no-kind zero no-one no-two = refl
+no-kind (suc zero) no-one no-two = absurd (no-one refl)
+no-kind (suc (suc zero)) no-one no-two = absurd (no-two refl)
+no-kind (suc (suc (suc n))) no-one no-two = nothing kinds (suc (suc (suc n))) (omega arith)

@@ -1,13 +1,16 @@
 -- Any two outcomes that a C function's promise allows at the same arguments coincide.
 use mathlib.Core.List.{List}
-use mathlib.Core.Path.{_≡_, refl, ap}
+use mathlib.Core.Path.{_≡_, refl, _∙_, ap}
+use mathlib.Core.Option.{Option}
 use Prim.Native.Nat.{ℕ}
 use Rattle.base.proofs.Unique.{Unique, both}
 use Rattle.base.proofs.Walked.{UniqueWalk, facts}
 use Rattle.base.specs.Outcome.{Outcome}
-use Rattle.capi.specs.Number.{Codes, Takes}
+use Rattle.capi.specs.Number.{Codes, CodesAny, Takes}
+use Rattle.capi.specs.Table.{Steps}
 use Rattle.collector.specs.Shape.{held}
 use Rattle.collector.specs.declared.Collector.{Collector}
+use Rattle.suites.specs.declared.get_channel_cipher_suites.Step.{Step}
 use Rattle.capi.proofs as p
 
 -- where the buffer is the second of two parameters
@@ -61,3 +64,73 @@ ghj-info-unique κs a ok z z′ w w′ q q′ = coder q q′
 
 pub ghj-capabilities-unique : Unique p.ghj_capabilities.Kinds.ps p.ghj_capabilities.Kinds.r p.ghj_capabilities.Reads.Asked p.ghj_capabilities.Reads.Learnt
 ghj-capabilities-unique κs a ok z z′ w w′ q q′ = coder q q′
+
+-- a message or none, its buffer the second of two parameters
+pub any-coder : {message : Option (List ℕ)} {n n′ : ℕ} {before after after′ : List ℕ} → CodesAny message n before after → CodesAny message n′ before after′
+    → (n ≡ n′) × (_≡_ {A = Unit {0} × (List ℕ × Unit {0})} (tt, (after, tt)) (tt, (after′, tt)))
+any-coder q q′ = (both (q .answers) (q′ .answers), ap (λ x. (tt, (x, tt))) (both (q .leaves) (q′ .leaves)))
+
+-- the buffer the last of five
+pub coder5 : {message : Outcome (List ℕ)} {n n′ : ℕ} {before after after′ : List ℕ} → Codes message n before after → Codes message n′ before after′
+    → (n ≡ n′) × (_≡_ {A = Unit {0} × (Unit {0} × (Unit {0} × (Unit {0} × (List ℕ × Unit {0}))))} (tt, (tt, (tt, (tt, (after, tt))))) (tt, (tt, (tt, (tt, (after′, tt))))))
+coder5 q q′ = (both (q .answers) (q′ .answers), ap (λ x. (tt, (tt, (tt, (tt, (x, tt)))))) (both (q .leaves) (q′ .leaves)))
+
+-- a step's position and flag, behind the list
+pub stepper : {step : Step} {n n′ position position′ failed failed′ : ℕ} → Steps step n position failed → Steps step n′ position′ failed′
+    → (n ≡ n′) × (_≡_ {A = Unit {0} × (ℕ × (ℕ × Unit {0}))} (tt, (position, (failed, tt))) (tt, (position′, (failed′, tt))))
+stepper {position′} {failed} q q′ =
+    (both (q .answers) (q′ .answers), ap (λ x. (tt, (x, (failed, tt)))) (both (q .moves) (q′ .moves)) ∙ ap (λ x. (tt, (position′, (x, tt)))) (both (q .marks) (q′ .marks)))
+
+pub ghj-access-request-unique : Unique p.requests.ghj_access_request.Kinds.ps p.requests.ghj_access_request.Kinds.r p.requests.ghj_access_request.Reads.Asked p.requests.ghj_access_request.Reads.Learnt
+ghj-access-request-unique κs a ok z z′ w w′ q q′ = coder3 q q′
+
+pub ghj-capabilities-request-unique : Unique p.requests.ghj_capabilities_request.Kinds.ps p.requests.ghj_capabilities_request.Kinds.r p.requests.ghj_capabilities_request.Reads.Asked p.requests.ghj_capabilities_request.Reads.Learnt
+ghj-capabilities-request-unique κs a ok z z′ w w′ q q′ = coder3 q q′
+
+pub ghj-challenge-request-unique : Unique p.requests.ghj_challenge_request.Kinds.ps p.requests.ghj_challenge_request.Kinds.r p.requests.ghj_challenge_request.Reads.Asked p.requests.ghj_challenge_request.Reads.Learnt
+ghj-challenge-request-unique κs a ok z z′ w w′ q q′ = coder3 q q′
+
+pub ghj-suites-request-unique : Unique p.requests.ghj_suites_request.Kinds.ps p.requests.ghj_suites_request.Kinds.r p.requests.ghj_suites_request.Reads.Asked p.requests.ghj_suites_request.Reads.Learnt
+ghj-suites-request-unique κs a ok z z′ w w′ q q′ = coder3 q q′
+
+pub ghj-info-request-unique : Unique p.requests.ghj_info_request.Kinds.ps p.requests.ghj_info_request.Kinds.r p.requests.ghj_info_request.Reads.Asked p.requests.ghj_info_request.Reads.Learnt
+ghj-info-request-unique κs a ok z z′ w w′ q q′ = coder q q′
+
+pub ghj-activation-request-unique : Unique p.requests.ghj_activation_request.Kinds.ps p.requests.ghj_activation_request.Kinds.r p.requests.ghj_activation_request.Reads.Asked p.requests.ghj_activation_request.Reads.Learnt
+ghj-activation-request-unique κs a ok z z′ w w′ q q′ = coder5 q q′
+
+pub ghj-channel-text-unique : Unique p.display.ghj_channel_text.Kinds.ps p.display.ghj_channel_text.Kinds.r p.display.ghj_channel_text.Reads.Asked p.display.ghj_channel_text.Reads.Learnt
+ghj-channel-text-unique κs a ok z z′ w w′ q q′ = coder q q′
+
+pub ghj-mode-text-unique : Unique p.display.ghj_mode_text.Kinds.ps p.display.ghj_mode_text.Kinds.r p.display.ghj_mode_text.Reads.Asked p.display.ghj_mode_text.Reads.Learnt
+ghj-mode-text-unique κs a ok z z′ w w′ q q′ = coder q q′
+
+pub ghj-limit-text-unique : Unique p.display.ghj_limit_text.Kinds.ps p.display.ghj_limit_text.Kinds.r p.display.ghj_limit_text.Reads.Asked p.display.ghj_limit_text.Reads.Learnt
+ghj-limit-text-unique κs a ok z z′ w w′ q q′ = coder q q′
+
+pub ghj-medium-text-unique : Unique p.display.ghj_medium_text.Kinds.ps p.display.ghj_medium_text.Kinds.r p.display.ghj_medium_text.Reads.Asked p.display.ghj_medium_text.Reads.Learnt
+ghj-medium-text-unique κs a ok z z′ w w′ q q′ = coder q q′
+
+pub ghj-protocol-text-unique : Unique p.display.ghj_protocol_text.Kinds.ps p.display.ghj_protocol_text.Kinds.r p.display.ghj_protocol_text.Reads.Asked p.display.ghj_protocol_text.Reads.Learnt
+ghj-protocol-text-unique κs a ok z z′ w w′ q q′ = coder q q′
+
+pub ghj-session-support-text-unique : Unique p.display.ghj_session_support_text.Kinds.ps p.display.ghj_session_support_text.Kinds.r p.display.ghj_session_support_text.Reads.Asked p.display.ghj_session_support_text.Reads.Learnt
+ghj-session-support-text-unique κs a ok z z′ w w′ q q′ = coder q q′
+
+pub ghj-auth-type-name-unique : Unique p.display.ghj_auth_type_name.Kinds.ps p.display.ghj_auth_type_name.Kinds.r p.display.ghj_auth_type_name.Reads.Asked p.display.ghj_auth_type_name.Reads.Learnt
+ghj-auth-type-name-unique κs a ok z z′ w w′ q q′ = coder q q′
+
+pub ghj-best-auth-unique : Unique p.strength.ghj_best_auth.Kinds.ps p.strength.ghj_best_auth.Kinds.r p.strength.ghj_best_auth.Reads.Asked p.strength.ghj_best_auth.Reads.Learnt
+ghj-best-auth-unique κs a ok z z′ w w′ q q′ = (both q q′, refl)
+
+pub ghj-compare-strength-unique : Unique p.strength.ghj_compare_strength.Kinds.ps p.strength.ghj_compare_strength.Kinds.r p.strength.ghj_compare_strength.Reads.Asked p.strength.ghj_compare_strength.Reads.Learnt
+ghj-compare-strength-unique κs a ok z z′ w w′ q q′ = (both q q′, refl)
+
+pub ghj-suite-algorithms-unique : Unique p.table.ghj_suite_algorithms.Kinds.ps p.table.ghj_suite_algorithms.Kinds.r p.table.ghj_suite_algorithms.Reads.Asked p.table.ghj_suite_algorithms.Reads.Learnt
+ghj-suite-algorithms-unique κs a ok z z′ w w′ q q′ = any-coder q q′
+
+pub ghj-suite-of-unique : Unique p.table.ghj_suite_of.Kinds.ps p.table.ghj_suite_of.Kinds.r p.table.ghj_suite_of.Reads.Asked p.table.ghj_suite_of.Reads.Learnt
+ghj-suite-of-unique κs a ok z z′ w w′ q q′ = (both q q′, refl)
+
+pub ghj-suite-step-unique : Unique p.table.ghj_suite_step.Kinds.ps p.table.ghj_suite_step.Kinds.r p.table.ghj_suite_step.Reads.Asked p.table.ghj_suite_step.Reads.Learnt
+ghj-suite-step-unique κs a ok z z′ w w′ q q′ = stepper q q′

@@ -1,7 +1,10 @@
 -- The number that a C function returns.
 use Prim.Native.Nat.{ℕ, _+_, _*_, _^_}
 use mathlib.Core.Path.{_≡_}
+use mathlib.Core.Bool.{Bool, not}
 use mathlib.Core.List.{List}
+use mathlib.Core.Option.{Option, none, some}
+use Rattle.base.specs.Choice.{_=?_}
 use Rattle.base.specs.Field.{byte}
 use Rattle.base.specs.Outcome.{Outcome, accepted, refused}
 use Rattle.base.specs.Verdict.{recordOf}
@@ -33,6 +36,20 @@ standing (accepted (complete n)) = accepted n
 standing (accepted (missing i)) = accepted (missingBit + i)
 standing (refused number carried) = refused number carried
 
+-- above every number of a standing
+abbrev pub noneBit : ℕ
+noneBit = 2 ^ 17
+
+-- "answers none, which counts as accepted": the number of what there is, or the bit
+abbrev pub orNone : {A : Type 0} → (A → ℕ) → Outcome (Option A) → Outcome ℕ
+orNone number (accepted (some a)) = accepted (number a)
+orNone number (accepted none) = accepted noneBit
+orNone number (refused n carried) = refused n carried
+
+-- a flag that C gives: any number but 0 sets it
+abbrev pub isSet : ℕ → Bool
+isSet n = not (n =? 0)
+
 -- The promise of a C function by which a collector takes an answer: its number, and the collector before and after.
 pub record Takes (taken : Outcome Collector) (number : ℕ) (before after : Collector) : Type 0 where
   pub answers : number ≡ code (plain taken)
@@ -42,3 +59,18 @@ pub record Takes (taken : Outcome Collector) (number : ℕ) (before after : Coll
 pub record Codes (message : Outcome (List ℕ)) (number : ℕ) (before after : List ℕ) : Type 0 where
   pub answers : number ≡ code (lengthOf (written message before))
   pub leaves : after ≡ over before (written message before)
+
+-- what a C function that may answer none returns, and what it leaves in the buffer
+
+abbrev pub codeAny : Option (List ℕ) → List ℕ → ℕ
+codeAny (some bytes) buffer = code (lengthOf (written (accepted bytes) buffer))
+codeAny none buffer = noneBit
+
+abbrev pub overAny : List ℕ → Option (List ℕ) → List ℕ
+overAny buffer (some bytes) = over buffer (written (accepted bytes) buffer)
+overAny buffer none = buffer
+
+-- The promise of one that writes a message or answers none.
+pub record CodesAny (message : Option (List ℕ)) (number : ℕ) (before after : List ℕ) : Type 0 where
+  pub answers : number ≡ codeAny message before
+  pub leaves : after ≡ overAny before message

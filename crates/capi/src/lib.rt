@@ -33,11 +33,19 @@ use suites::collected::collected_suites_in;
 use suites::get_channel_cipher_suites::ChannelCipherSuites;
 use suites::get_channel_cipher_suites::suite_numbers;
 
+pub mod display;
+pub mod requests;
+pub mod strength;
+pub mod table;
+
 // A number above every length.
 const REFUSED: u64 = 0x8000_0000_0000_0000;
 
 // Above every length of a list.
 const MISSING: u64 = 0x1_0000;
+
+// Document 01's "answers none": above every number of a status.
+const NONE: u64 = 0x2_0000;
 
 fn refused(refusal: Refusal) -> u64
     ensures { λ r. ⌜ r ≡ code (spec.refusal refusal) ⌝ }

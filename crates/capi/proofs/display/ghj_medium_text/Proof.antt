@@ -1,0 +1,13 @@
+use borrow.Author.Needs.{needs}
+use Rattle.capi.proofs.Laws.{coding-made}
+use Rattle.info.specs.GetChannelInfo.{mediumText}
+use Rattle.base.specs.Outcome.{accepted}
+use Rattle.capi.proofs.display.ghj_medium_text.Statement.{statement}
+use Rattle.capi.proofs.display.ghj_medium_text.Tie as tie
+
+returns : tie.Need-returns
+returns c = coding-made (λ x. accepted (mediumText x)) (c .before .before .before .before .before .from .ensures) (c .code .ensures) (c .before .before .before .text .ensures)
+
+pub ghj-medium-text-spec : {M : Type 1} → statement M
+ghj-medium-text-spec =
+    tie.close (tie.spec (search needs) (search needs) (search needs) (search needs) returns)

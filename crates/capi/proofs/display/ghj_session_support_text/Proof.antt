@@ -1,0 +1,13 @@
+use borrow.Author.Needs.{needs}
+use Rattle.capi.proofs.Laws.{coding-made}
+use Rattle.info.specs.GetChannelInfo.{sessionText}
+use Rattle.base.specs.Outcome.{accepted}
+use Rattle.capi.proofs.display.ghj_session_support_text.Statement.{statement}
+use Rattle.capi.proofs.display.ghj_session_support_text.Tie as tie
+
+returns : tie.Need-returns
+returns c = coding-made (λ x. accepted (sessionText x)) (c .before .before .before .before .before .from .ensures) (c .code .ensures) (c .before .before .before .text .ensures)
+
+pub ghj-session-support-text-spec : {M : Type 1} → statement M
+ghj-session-support-text-spec =
+    tie.close (tie.spec (search needs) (search needs) (search needs) (search needs) returns)

@@ -1,0 +1,17 @@
+-- The texts of what C gives by a number.
+use Prim.Native.Nat.{ℕ}
+use mathlib.Core.List.{List}
+use Rattle.auth.specs.Auth.{authTypeName}
+use Rattle.base.specs.Connection.{channelOf, channelText}
+use Rattle.base.specs.Outcome.{Outcome, accepted, _>>=_}
+use Rattle.capi.specs.Requests.{typeOf}
+
+abbrev pub channelName : ℕ → Outcome (List ℕ)
+channelName number = do
+  channel ← channelOf number
+  accepted (channelText channel)
+
+abbrev pub typeName : ℕ → Outcome (List ℕ)
+typeName authType = do
+  kind ← typeOf authType
+  accepted (authTypeName kind)

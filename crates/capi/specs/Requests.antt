@@ -1,0 +1,67 @@
+-- The requests that C functions write, by the numbers that C gives. A number that names nothing is refused, in the order of the arguments.
+use Prim.Native.Nat.{ℕ}
+use mathlib.Core.List.{List, [], _∷_}
+use mathlib.Core.Option.{Option, none, some}
+use Rattle.auth.specs.Auth.{authTypeOf, privileges}
+use Rattle.auth.specs.GetChannelAuthenticationCapabilities as capabilities
+use Rattle.auth.specs.declared.AuthType.{AuthType}
+use Rattle.auth.specs.declared.PrivilegeLevel.{PrivilegeLevel}
+use Rattle.base.specs.Connection.{channelOf}
+use Rattle.base.specs.Named.{named, required}
+use Rattle.base.specs.Outcome.{Outcome, accepted, _>>=_}
+use Rattle.channel.specs.GetChannelAccess as access
+use Rattle.channel.specs.declared.get_channel_access.ChannelAccessType.{ChannelAccessType}
+use Rattle.channel.specs.declared.get_channel_access.ChannelAccessType.the-variants.{NonVolatile, Volatile}
+use Rattle.info.specs.GetChannelInfo as info
+use Rattle.session.specs.ActivateSession as activation
+use Rattle.session.specs.GetSessionChallenge as challenge
+use Rattle.suites.specs.GetChannelCipherSuites as suites
+
+-- from 0 up: which settings
+abbrev pub kinds : List (Option ChannelAccessType)
+kinds = none ∷ some NonVolatile ∷ some Volatile ∷ []
+
+abbrev pub kindOf : ℕ → Outcome ChannelAccessType
+kindOf n = required 9 [] (named kinds n)
+
+-- the whole number counts; 4 carries it
+abbrev pub typeOf : ℕ → Outcome AuthType
+typeOf n = required 4 (n ∷ []) (authTypeOf n)
+
+-- the whole number counts; 5 carries it
+abbrev pub levelOf : ℕ → Outcome PrivilegeLevel
+levelOf n = required 5 (n ∷ []) (named privileges n)
+
+abbrev pub accessRequest : ℕ → ℕ → Outcome (List ℕ)
+accessRequest number which = do
+  channel ← channelOf number
+  kind ← kindOf which
+  access.commandBytes (access.command channel kind)
+
+abbrev pub infoRequest : ℕ → Outcome (List ℕ)
+infoRequest number = do
+  command ← info.commandFor number
+  info.commandBytes command
+
+abbrev pub capabilitiesRequest : ℕ → ℕ → Outcome (List ℕ)
+capabilitiesRequest number privilege = do
+  channel ← channelOf number
+  level ← levelOf privilege
+  capabilities.commandBytes (capabilities.command channel level)
+
+abbrev pub challengeRequest : ℕ → List ℕ → Outcome (List ℕ)
+challengeRequest authType name = do
+  kind ← typeOf authType
+  command ← challenge.commandFor kind name
+  accepted (challenge.commandBytes command)
+
+abbrev pub activationRequest : ℕ → ℕ → List ℕ → ℕ → Outcome (List ℕ)
+activationRequest authType privilege string sequence = do
+  kind ← typeOf authType
+  level ← levelOf privilege
+  accepted (activation.commandBytes (activation.command kind level string sequence))
+
+abbrev pub suitesRequest : ℕ → ℕ → Outcome (List ℕ)
+suitesRequest number index = do
+  command ← suites.commandFor number index
+  suites.commandBytes command

@@ -1,0 +1,124 @@
+// The data of each request, at the start of out. Arguments are looked at in their order, then the room.
+ghost use mathlib.Core.Path.{_≡_};
+ghost use Rattle.auth.specs.Auth.{privileges, saidPrivilege};
+ghost use Rattle.base.specs.Named.{named};
+ghost use Rattle.base.specs.Outcome.{accepted};
+ghost use Rattle.capi.specs.Number.{Codes};
+ghost use Rattle.capi.specs.Requests.{accessRequest, activationRequest, capabilitiesRequest, challengeRequest, infoRequest, suitesRequest};
+use crate::code;
+use crate::refused;
+use auth::AuthType;
+use auth::AuthTypeAnswer;
+use auth::PrivilegeAnswer;
+use auth::PrivilegeLevel;
+use auth::get_channel_authentication_capabilities::GetChannelAuthenticationCapabilities;
+use base::connection::Channel;
+use base::connection::ChannelAnswer;
+use base::refusal::Refusal;
+use base::verdict::Verdict;
+use channel::get_channel_access::GetChannelAccess;
+use info::get_channel_info::CommandAnswer as InfoCommand;
+use info::get_channel_info::GetChannelInfo;
+use session::activate_session::ActivateSession;
+use session::get_session_challenge::GetSessionChallenge;
+use suites::get_channel_cipher_suites::CommandAnswer as SuitesCommand;
+use suites::get_channel_cipher_suites::GetChannelCipherSuites;
+
+// 1 asks for the non-volatile settings, 2 for the volatile ones.
+#[no_mangle]
+pub extern "C" fn ghj_access_request(channel: u8, kind: u8, out: &mut [u8]) -> u64
+    ensures { λ r. ⌜ Codes (accessRequest channel kind) r (now (out .entry)) (now (out .exit)) ⌝ }
+{
+    let ChannelAnswer::Channel(channel) = Channel::new(channel) else {
+        return refused(Refusal::NoChannel);
+    };
+    match kind {
+        1 => code(GetChannelAccess::non_volatile(channel).write(out)),
+        2 => code(GetChannelAccess::volatile(channel).write(out)),
+        _ => refused(Refusal::NoForm),
+    }
+}
+
+#[no_mangle]
+pub extern "C" fn ghj_info_request(channel: u8, out: &mut [u8]) -> u64
+    ensures { λ r. ⌜ Codes (infoRequest channel) r (now (out .entry)) (now (out .exit)) ⌝ }
+{
+    match GetChannelInfo::numbered(channel) {
+        InfoCommand::Command(command) => code(command.write(out)),
+        InfoCommand::Refused(refusal) => refused(refusal),
+    }
+}
+
+// The whole number counts, and `try_from` reads its low nibble.
+fn whole_privilege(number: u8) -> PrivilegeAnswer
+    ensures { λ r. ⌜ saidPrivilege r ≡ accepted (named privileges number) ⌝ }
+{
+    if 15 < number {
+        return PrivilegeAnswer::Nothing;
+    }
+    PrivilegeLevel::try_from(number)
+}
+
+#[no_mangle]
+pub extern "C" fn ghj_capabilities_request(channel: u8, privilege: u8, out: &mut [u8]) -> u64
+    ensures { λ r. ⌜ Codes (capabilitiesRequest channel privilege) r (now (out .entry)) (now (out .exit)) ⌝ }
+{
+    let ChannelAnswer::Channel(channel) = Channel::new(channel) else {
+        return refused(Refusal::NoChannel);
+    };
+    let PrivilegeAnswer::Level(level) = whole_privilege(privilege) else {
+        return refused(Refusal::InvalidPrivilegeLevel(privilege));
+    };
+    code(GetChannelAuthenticationCapabilities::new(channel, level).write(out))
+}
+
+#[no_mangle]
+pub extern "C" fn ghj_challenge_request(auth_type: u8, name: &[u8], out: &mut [u8]) -> u64
+    ensures { λ r. ⌜ Codes (challengeRequest «auth_type» (now (name .entry))) r (now (out .entry)) (now (out .exit)) ⌝ }
+{
+    let AuthTypeAnswer::AuthType(kind) = AuthType::try_from(auth_type) else {
+        return refused(Refusal::InvalidAuthType(auth_type));
+    };
+    let answer = GetSessionChallenge::new(kind, name);
+    let verdict = answer.verdict;
+    let command = answer.command;
+    match verdict {
+        Verdict::Accepted => code(command.write(out)),
+        Verdict::Refused(refusal) => refused(refusal),
+    }
+}
+
+#[no_mangle]
+pub extern "C" fn ghj_activation_request(
+    auth_type: u8,
+    privilege: u8,
+    challenge: &[u8; 16],
+    sequence: u32,
+    out: &mut [u8],
+) -> u64
+    ensures { λ r. ⌜ Codes (activationRequest «auth_type» privilege (now (challenge .entry)) sequence) r (now (out .entry)) (now (out .exit)) ⌝ }
+{
+    let AuthTypeAnswer::AuthType(kind) = AuthType::try_from(auth_type) else {
+        return refused(Refusal::InvalidAuthType(auth_type));
+    };
+    let PrivilegeAnswer::Level(level) = whole_privilege(privilege) else {
+        return refused(Refusal::InvalidPrivilegeLevel(privilege));
+    };
+    let command = ActivateSession {
+        auth_type: kind,
+        maximum_privilege_level: level,
+        challenge_string: *challenge,
+        initial_sequence_number: sequence,
+    };
+    code(command.write(out))
+}
+
+#[no_mangle]
+pub extern "C" fn ghj_suites_request(channel: u8, index: u8, out: &mut [u8]) -> u64
+    ensures { λ r. ⌜ Codes (suitesRequest channel index) r (now (out .entry)) (now (out .exit)) ⌝ }
+{
+    match GetChannelCipherSuites::numbered(channel, index) {
+        SuitesCommand::Command(command) => code(command.write(out)),
+        SuitesCommand::Refused(refusal) => refused(refusal),
+    }
+}
