@@ -38,7 +38,7 @@ fn asked() -> Option<Asked> {
     let mut asked = Asked {
         million: false,
         seed: 0x4768_6A61_6C76_6573,
-        rounds: 200_000,
+        rounds: 300_000,
     };
     for word in std::env::args().skip(1) {
         match word.split_once('=') {

@@ -113,6 +113,19 @@ impl Held {
         }
     }
 
+    /// Asked for a value, which is compared as it is shown.
+    pub fn shows(&mut self, given: &[u8], expected: &str, said: &str) {
+        self.answers += 1;
+        if expected.starts_with("Err") {
+            self.refused += 1;
+        } else {
+            self.accepted += 1;
+        }
+        if said != expected {
+            self.differs(given, expected, said);
+        }
+    }
+
     pub fn differs(&mut self, given: &[u8], expected: &str, said: &str) {
         self.differ += 1;
         if self.differ <= SHOWN {
@@ -149,7 +162,10 @@ impl fmt::Display for Held {
             f,
             "  {name:<20} {answers:>9} answers; inputs: {accepted} accepted"
         )?;
-        write!(f, ", {refused} refused, {differ} answered otherwise")?;
+        write!(
+            f,
+            ", {refused} refused or none, {differ} answered otherwise"
+        )?;
         if *excepted > 0 {
             write!(f, ", {excepted} excepted")?;
         }

@@ -71,22 +71,31 @@ pub fn each_byte(message: &[u8], mut ask: impl FnMut(&[u8])) {
     }
 }
 
-/// The message with one byte changed, with one cut or all from a place on, with one added.
-pub fn damaged(message: &[u8], random: &mut Random) -> [Vec<u8>; 3] {
+/// The message with one byte changed, with two changed, with one cut or all from a place on, with one added.
+pub fn damaged(message: &[u8], random: &mut Random) -> [Vec<u8>; 4] {
     let [mut changed, mut cut, mut added] = [(); 3].map(|()| message.to_vec());
     if !message.is_empty() {
-        let place = random.below(message.len());
-        changed[place] = match random.below(4) {
-            0 => 0x00,
-            1 => 0xC0,
-            2 => message[place] ^ 1 << random.below(8),
-            _ => random.byte(),
-        };
+        change(&mut changed, random);
         match random.below(2) {
             0 => drop(cut.remove(random.below(message.len()))),
             _ => cut.truncate(random.below(message.len())),
         }
     }
+    let mut twice = changed.clone();
+    if !message.is_empty() {
+        change(&mut twice, random);
+    }
     added.insert(random.below(message.len() + 1), random.byte());
-    [changed, cut, added]
+    [changed, twice, cut, added]
+}
+
+/// One byte of some.
+fn change(data: &mut [u8], random: &mut Random) {
+    let place = random.below(data.len());
+    data[place] = match random.below(4) {
+        0 => 0x00,
+        1 => 0xC0,
+        2 => data[place] ^ 1 << random.below(8),
+        _ => random.byte(),
+    };
 }

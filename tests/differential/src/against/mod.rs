@@ -2,7 +2,12 @@
 
 mod held;
 mod inputs;
+mod numbers;
 mod readers;
+mod requests;
+mod steps;
+mod texts;
+mod types;
 
 use held::Held;
 use inputs::Random;
@@ -13,6 +18,11 @@ pub fn all(seed: u64, rounds: u64) -> bool {
     let mut random = Random::new(seed);
     let mut all = Vec::new();
     readers::hold(&mut all, &mut random, rounds);
+    all.push(steps::hold(&mut random, rounds));
+    requests::hold(&mut all, &mut random, rounds);
+    texts::hold(&mut all);
+    numbers::hold(&mut all, &mut random, rounds);
+    types::hold(&mut all, &mut random, rounds / 8);
 
     for held in &all {
         println!("{held}");

@@ -14,7 +14,7 @@ use oracle_core::connection::{IpmiCommand, NotEnoughData};
 /// How many bytes of a list an answer has.
 const PART: usize = CAPACITY / PARTS;
 
-const LONGEST: usize = 40;
+pub const LONGEST: usize = 40;
 const LONGEST_LIST: usize = 1100;
 
 /// A reader, what the crate says in its place, and a message that the crate accepts.
@@ -126,7 +126,9 @@ impl Reader {
         each_short(&mut ask);
         each_length(self.longest, random, &mut ask);
         for _ in 0..8 {
-            each_byte(&(self.usual)(random), &mut ask);
+            let mut usual = (self.usual)(random);
+            usual.truncate(LONGEST);
+            each_byte(&usual, &mut ask);
         }
         for _ in 0..rounds {
             let usual = (self.usual)(random);
@@ -243,14 +245,14 @@ fn suite_numbers(list: &[u8]) -> Expected {
     Ok(suites.map(|suite| suite.id()).collect())
 }
 
-fn usual_info(random: &mut Random) -> Vec<u8> {
+pub fn usual_info(random: &mut Random) -> Vec<u8> {
     let mut data = random.bytes(9);
     data[0] = data[0] / 16 * 16 + random.one_of(&[0, 1, 2, 5, 10, 11, 14, 15]);
     data
 }
 
 /// With bit 7 of byte 1 there is an eighth byte.
-fn usual_capabilities(random: &mut Random) -> Vec<u8> {
+pub fn usual_capabilities(random: &mut Random) -> Vec<u8> {
     let mut data = random.bytes(8);
     if data[1] < 0x80 {
         data.truncate(7);
@@ -258,7 +260,7 @@ fn usual_capabilities(random: &mut Random) -> Vec<u8> {
     data
 }
 
-fn usual_challenge(random: &mut Random) -> Vec<u8> {
+pub fn usual_challenge(random: &mut Random) -> Vec<u8> {
     let mut data = random.bytes(20);
     if data.starts_with(&[0; 4]) {
         data[0] = 1;
@@ -266,7 +268,7 @@ fn usual_challenge(random: &mut Random) -> Vec<u8> {
     data
 }
 
-fn usual_activation(random: &mut Random) -> Vec<u8> {
+pub fn usual_activation(random: &mut Random) -> Vec<u8> {
     let mut data = random.bytes(10);
     data[0] = random.one_of(&[0, 1, 2, 4]);
     // Sessions with a single byte that is not zero, so that the damaged ones have none.
