@@ -1,5 +1,5 @@
 //! Links the archive of the C functions: the one that GHJALVESTRU_ARCHIVE names, else the one that `tests/native archive`
-//! proves and builds.
+//! proves and builds. A relative path is seen from the repository's root.
 
 use std::env;
 use std::path::{Path, PathBuf};
@@ -19,16 +19,16 @@ fn main() {
 }
 
 fn find() -> Result<PathBuf, String> {
+    let here = env::var_os("CARGO_MANIFEST_DIR").ok_or("CARGO_MANIFEST_DIR is not set")?;
+    let root = Path::new(&here).join("..");
     match env::var_os(VARIABLE).filter(|value| !value.is_empty()) {
-        Some(archive) => Ok(PathBuf::from(archive)),
-        None => build(),
+        Some(archive) => Ok(root.join(archive)),
+        None => build(&root),
     }
 }
 
 /// By the repository's own script; on x86-64 that is `rt staticlib capi`.
-fn build() -> Result<PathBuf, String> {
-    let here = env::var("CARGO_MANIFEST_DIR").map_err(|fault| fault.to_string())?;
-    let root = Path::new(&here).join("..");
+fn build(root: &Path) -> Result<PathBuf, String> {
     let script = root.join("tests/native");
     println!("cargo::rerun-if-changed={}", root.join("crates").display());
     println!("cargo::rerun-if-changed={}", script.display());

@@ -181,6 +181,12 @@ unsafe extern "C" {
         response: *const u8,
         response_length: usize,
     ) -> u64;
+    fn ghj_collector_take(
+        collector: &mut Lent,
+        index: u8,
+        response: *const u8,
+        response_length: usize,
+    ) -> u64;
     safe fn ghj_collector_status(bytes: &[u8; CAPACITY], marks: &[u8; PARTS]) -> u64;
     fn ghj_collector_list(
         bytes: &[u8; CAPACITY],
@@ -205,6 +211,22 @@ pub fn collector_answer(
 ) -> u64 {
     // SAFETY: the pointer goes with its slice's length; the references are C's to use for this call.
     unsafe { ghj_collector_answer(bytes, marks, index, response.as_ptr(), response.len()) }
+}
+
+/// A collector as C has it, for [`collector_take`].
+#[repr(C)]
+#[derive(Clone, Copy, Debug, PartialEq, Eq)]
+pub struct Lent {
+    /// What was heard, zeros elsewhere.
+    pub bytes: [u8; CAPACITY],
+    /// One more than each part's length; 0 where it was not heard.
+    pub marks: [u8; PARTS],
+}
+
+/// The same as [`collector_answer`], the collector lent whole: by copies, so slower.
+pub fn collector_take(collector: &mut Lent, index: u8, response: &[u8]) -> u64 {
+    // SAFETY: as for the answer; the struct is laid out as in C.
+    unsafe { ghj_collector_take(collector, index, response.as_ptr(), response.len()) }
 }
 
 /// Whether a collector is complete.

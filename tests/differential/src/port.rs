@@ -1,17 +1,14 @@
 //! The port's collector, through C.
 
 use collector_model::collector::{Answer, Hears, Status, Verdict};
-use ghjalvestru::sys::{self, CAPACITY, MISSING, PARTS, REFUSED};
+use ghjalvestru::sys::{self, Lent, CAPACITY, MISSING, PARTS, REFUSED};
 
 #[derive(Clone, Copy, PartialEq)]
-pub struct Port {
-    bytes: [u8; CAPACITY],
-    marks: [u8; PARTS],
-}
+pub struct Port(Lent);
 
 impl Port {
     fn list(&self, out: &mut [u8]) -> u64 {
-        sys::collector_list(&self.bytes, &self.marks, out)
+        sys::collector_list(&self.0.bytes, &self.0.marks, out)
     }
 
     /// The list, its buffer too short by one first: that changes nothing.
@@ -30,20 +27,23 @@ impl Port {
 
 impl Hears for Port {
     fn fresh() -> Self {
-        Self {
+        Self(Lent {
             bytes: [0; CAPACITY],
             marks: [0; PARTS],
-        }
+        })
     }
 
+    /// By both entries that take an answer, the collector lent whole or as its arrays.
     fn hear(&mut self, answer: &Answer) -> Verdict {
         let before = *self;
-        let number = sys::collector_answer(
-            &mut self.bytes,
-            &mut self.marks,
-            answer.index,
-            &answer.bytes,
+        let mut whole = self.0;
+        let Lent { bytes, marks } = &mut self.0;
+        let number = sys::collector_answer(bytes, marks, answer.index, &answer.bytes);
+        assert_eq!(
+            sys::collector_take(&mut whole, answer.index, &answer.bytes),
+            number
         );
+        assert!(whole == self.0, "the two entries differ");
         if number == 0 {
             return Verdict::Accepted;
         }
@@ -53,7 +53,7 @@ impl Hears for Port {
     }
 
     fn status(&self) -> Status {
-        let number = sys::collector_status(&self.bytes, &self.marks);
+        let number = sys::collector_status(&self.0.bytes, &self.0.marks);
         if number < MISSING {
             return Status::Complete(self.whole_list(number as usize));
         }

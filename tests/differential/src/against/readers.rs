@@ -125,6 +125,14 @@ impl Reader {
         let mut ask = |data: &[u8]| held.writes(data, &(self.expected)(data), self.call);
         each_short(&mut ask);
         each_length(self.longest, random, &mut ask);
+        // Whole messages one behind the other, cut at every length.
+        let mut row = Vec::new();
+        while row.len() < self.longest {
+            row.extend((self.usual)(random));
+        }
+        for length in 0..=self.longest {
+            ask(&row[..length]);
+        }
         for _ in 0..8 {
             let mut usual = (self.usual)(random);
             usual.truncate(LONGEST);
