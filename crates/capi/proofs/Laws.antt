@@ -14,7 +14,6 @@ use Rattle.base.specs.declared.refusal.Refusal.{Refusal}
 use Rattle.base.specs.declared.verdict.Verdict.{Verdict}
 use Rattle.base.specs.declared.written.Written.the-variants as Written
 use Rattle.base.proofs.Named.{nothing}
-use Rattle.base.proofs.Outcome.{apart}
 use Rattle.base.proofs.written.Laws.{refusing}
 use Rattle.capi.specs.Number.{Codes, CodesAny, Takes, code, noneBit, plain}
 use Rattle.capi.specs.Requests.{kinds}

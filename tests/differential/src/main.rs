@@ -1,6 +1,8 @@
-//! The port, through C, against the model of the collector: the recorded questions and, with the word `million`, a million
-//! random histories.
+//! The port, through C: its collector against the model, on the recorded questions and, with the word `million`, on a million
+//! random histories; all else against the Rust crate, on `rounds=N` random turns a function from `seed=N`.
 
+#[cfg(feature = "oracle")]
+mod against;
 mod port;
 
 use collector_model::{answer_by, million_by};
@@ -10,7 +12,47 @@ const QUESTIONS: &str = include_str!("../../model/questions.txt");
 const ANSWERS: &str = include_str!("../../model/answers.txt");
 const MILLION: &str = include_str!("../../model/million.txt");
 
+/// What the command line asks for.
+struct Asked {
+    million: bool,
+    seed: u64,
+    rounds: u64,
+}
+
 fn main() {
+    let Some(asked) = asked() else {
+        eprintln!("usage: [million] [seed=NUMBER] [rounds=NUMBER]");
+        std::process::exit(2);
+    };
+    let mut same = recorded();
+    if asked.million {
+        same &= million();
+    }
+    same &= readers(&asked);
+    if !same {
+        std::process::exit(1);
+    }
+}
+
+fn asked() -> Option<Asked> {
+    let mut asked = Asked {
+        million: false,
+        seed: 0x4768_6A61_6C76_6573,
+        rounds: 300_000,
+    };
+    for word in std::env::args().skip(1) {
+        match word.split_once('=') {
+            None if word == "million" => asked.million = true,
+            Some(("seed", number)) => asked.seed = number.parse().ok()?,
+            Some(("rounds", number)) => asked.rounds = number.parse().ok()?,
+            _ => return None,
+        }
+    }
+    // Nothing but zeros would follow a zero.
+    (asked.seed != 0).then_some(asked)
+}
+
+fn recorded() -> bool {
     let mut differ = 0;
     let mut count = 0;
     for (question, answer) in QUESTIONS.lines().zip(ANSWERS.lines()) {
@@ -26,10 +68,7 @@ fn main() {
     println!(
         "collector: {count} recorded questions, {differ} answered otherwise than by the model"
     );
-
-    if differ > 0 || std::env::args().nth(1).as_deref() == Some("million") && !million() {
-        std::process::exit(1);
-    }
+    differ == 0
 }
 
 fn million() -> bool {
@@ -42,4 +81,15 @@ fn million() -> bool {
     };
     println!("collector: all pairs and 1,048,576 random histories: hash {hash}, {whose}");
     same
+}
+
+#[cfg(feature = "oracle")]
+fn readers(asked: &Asked) -> bool {
+    against::all(asked.seed, asked.rounds)
+}
+
+#[cfg(not(feature = "oracle"))]
+fn readers(_: &Asked) -> bool {
+    println!("readers: no folder with the sources of ipmi-rs-core (IPMI_RS_CORE_SRC): passed over");
+    true
 }

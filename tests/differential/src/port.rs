@@ -1,38 +1,14 @@
 //! The port's collector, through C.
 
 use collector_model::collector::{Answer, Hears, Status, Verdict};
-
-const CAPACITY: usize = 1024;
-const PARTS: usize = 64;
-const REFUSED: u64 = 1 << 63;
-const MISSING: u64 = 1 << 16;
-
-extern "C" {
-    fn ghj_collector_answer(
-        bytes: *mut [u8; CAPACITY],
-        marks: *mut [u8; PARTS],
-        index: u8,
-        response: *const u8,
-        length: usize,
-    ) -> u64;
-    fn ghj_collector_status(bytes: *const [u8; CAPACITY], marks: *const [u8; PARTS]) -> u64;
-    fn ghj_collector_list(
-        bytes: *const [u8; CAPACITY],
-        marks: *const [u8; PARTS],
-        out: *mut u8,
-        room: usize,
-    ) -> u64;
-}
+use ghjalvestru::sys::{self, Lent, CAPACITY, MISSING, PARTS, REFUSED};
 
 #[derive(Clone, Copy, PartialEq)]
-pub struct Port {
-    bytes: [u8; CAPACITY],
-    marks: [u8; PARTS],
-}
+pub struct Port(Lent);
 
 impl Port {
     fn list(&self, out: &mut [u8]) -> u64 {
-        unsafe { ghj_collector_list(&self.bytes, &self.marks, out.as_mut_ptr(), out.len()) }
+        sys::collector_list(&self.0.bytes, &self.0.marks, out)
     }
 
     /// The list, its buffer too short by one first: that changes nothing.
@@ -51,23 +27,23 @@ impl Port {
 
 impl Hears for Port {
     fn fresh() -> Self {
-        Self {
+        Self(Lent {
             bytes: [0; CAPACITY],
             marks: [0; PARTS],
-        }
+        })
     }
 
+    /// By both entries that take an answer, the collector lent whole or as its arrays.
     fn hear(&mut self, answer: &Answer) -> Verdict {
         let before = *self;
-        let number = unsafe {
-            ghj_collector_answer(
-                &mut self.bytes,
-                &mut self.marks,
-                answer.index,
-                answer.bytes.as_ptr(),
-                answer.bytes.len(),
-            )
-        };
+        let mut whole = self.0;
+        let Lent { bytes, marks } = &mut self.0;
+        let number = sys::collector_answer(bytes, marks, answer.index, &answer.bytes);
+        assert_eq!(
+            sys::collector_take(&mut whole, answer.index, &answer.bytes),
+            number
+        );
+        assert!(whole == self.0, "the two entries differ");
         if number == 0 {
             return Verdict::Accepted;
         }
@@ -77,7 +53,7 @@ impl Hears for Port {
     }
 
     fn status(&self) -> Status {
-        let number = unsafe { ghj_collector_status(&self.bytes, &self.marks) };
+        let number = sys::collector_status(&self.0.bytes, &self.0.marks);
         if number < MISSING {
             return Status::Complete(self.whole_list(number as usize));
         }

@@ -1,0 +1,264 @@
+//! Get Channel Cipher Suites, 54h; the suites and the reading of their list.
+
+use super::{AuthenticationAlgorithm, ConfidentialityAlgorithm, IntegrityAlgorithm};
+use crate::connection::{Channel, IpmiCommand, Message};
+use crate::number::{accepted, certain, record, some};
+use crate::sys::{self, CAPACITY, PARTS};
+use crate::Error;
+use std::ops::Deref;
+
+/// How many bytes of the list an answer has at most.
+const PART: usize = CAPACITY / PARTS;
+
+/// Asks for a part of the list of suites.
+#[derive(Clone, Copy, Debug, PartialEq, Eq)]
+pub struct GetChannelCipherSuites {
+    channel: Channel,
+    list_index: u8,
+}
+
+impl GetChannelCipherSuites {
+    /// For the part of this index; refuses [`Error::BadIndex`] above 0x3F.
+    pub fn new(channel: Channel, list_index: u8) -> Result<Self, Error> {
+        request(channel, list_index)?;
+        Ok(Self {
+            channel,
+            list_index,
+        })
+    }
+}
+
+fn request(channel: Channel, list_index: u8) -> Result<[u8; 3], Error> {
+    record(|out| sys::suites_request(channel.value(), list_index, out))
+}
+
+impl From<GetChannelCipherSuites> for Message {
+    fn from(command: GetChannelCipherSuites) -> Self {
+        Message::request(0x54, certain(request(command.channel, command.list_index)))
+    }
+}
+
+impl IpmiCommand for GetChannelCipherSuites {
+    type Output = ChannelCipherSuites;
+
+    fn parse_success_response(data: &[u8]) -> Result<ChannelCipherSuites, Error> {
+        ChannelCipherSuites::parse(data)
+    }
+}
+
+/// A part of the list of suites; as a slice, its bytes.
+#[derive(Clone, Debug, PartialEq, Eq)]
+pub struct ChannelCipherSuites {
+    data_length: usize,
+    record_data: [u8; PART],
+}
+
+impl ChannelCipherSuites {
+    /// Reads a response; refuses [`Error::TooMuchData`] above sixteen bytes.
+    pub fn parse(data: &[u8]) -> Result<Self, Error> {
+        let mut record_data = [0; PART];
+        let length = accepted(sys::suites(data, &mut record_data))?;
+        Ok(Self {
+            data_length: length as usize,
+            record_data,
+        })
+    }
+
+    /// Reads a whole list. As with the crate ipmi-rs-core, a call of `next` may give a suite after one that gave none.
+    ///
+    /// ```
+    /// use ghjalvestru::app::auth::ChannelCipherSuites;
+    ///
+    /// let list = [0xC0, 0x03, 0x01, 0x41, 0x81, 0xC0, 0x11, 0x03, 0x44, 0x81];
+    /// let numbers: Vec<u8> = ChannelCipherSuites::parse_full_data(&list).map(|suite| suite.id()).collect();
+    /// assert_eq!(numbers, [3, 17]);
+    /// ```
+    pub fn parse_full_data(data: &[u8]) -> Iter<'_> {
+        Iter {
+            list: data,
+            position: 0,
+            failed: 0,
+        }
+    }
+}
+
+impl Deref for ChannelCipherSuites {
+    type Target = [u8];
+
+    fn deref(&self) -> &[u8] {
+        let all = &self.record_data;
+        all.get(..self.data_length).unwrap_or(all)
+    }
+}
+
+/// The suites of a list, a step at a time.
+#[derive(Clone, Debug)]
+pub struct Iter<'a> {
+    list: &'a [u8],
+    position: usize,
+    failed: u8,
+}
+
+impl Iterator for Iter<'_> {
+    type Item = CipherSuite;
+
+    fn next(&mut self) -> Option<CipherSuite> {
+        let number = sys::suite_step(self.list, &mut self.position, &mut self.failed);
+        CipherSuite::from_id(some(number)?)
+    }
+}
+
+/// A cipher suite of the standard's table, named by its number.
+#[derive(Clone, Copy, Debug, PartialEq, Eq, Hash)]
+#[allow(missing_docs)] // The numbers say all.
+pub enum CipherSuite {
+    Id0,
+    Id1,
+    Id2,
+    Id3,
+    Id4,
+    Id5,
+    Id6,
+    Id7,
+    Id8,
+    Id9,
+    Id10,
+    Id11,
+    Id12,
+    Id13,
+    Id14,
+    Id15,
+    Id16,
+    Id17,
+    Id18,
+    Id19,
+}
+
+impl CipherSuite {
+    /// In the order of their numbers.
+    const ALL: [Self; 20] = [
+        Self::Id0,
+        Self::Id1,
+        Self::Id2,
+        Self::Id3,
+        Self::Id4,
+        Self::Id5,
+        Self::Id6,
+        Self::Id7,
+        Self::Id8,
+        Self::Id9,
+        Self::Id10,
+        Self::Id11,
+        Self::Id12,
+        Self::Id13,
+        Self::Id14,
+        Self::Id15,
+        Self::Id16,
+        Self::Id17,
+        Self::Id18,
+        Self::Id19,
+    ];
+
+    /// Its number.
+    pub fn id(&self) -> u8 {
+        *self as u8
+    }
+
+    /// The suite of a number.
+    pub fn from_id(value: u8) -> Option<Self> {
+        Self::ALL.get(usize::from(value)).copied()
+    }
+
+    /// The suite of three algorithms' numbers: authentication, integrity, confidentiality.
+    pub fn from_suite([authentication, integrity, confidentiality]: [u8; 3]) -> Option<Self> {
+        let number = sys::suite_of(authentication, integrity, confidentiality);
+        Self::from_id(some(number)?)
+    }
+
+    /// The numbers of its algorithms: authentication, integrity, confidentiality.
+    pub fn into_suite(self) -> [u8; 3] {
+        let mut row = [0; 3];
+        let number = sys::suite_algorithms(self.id(), &mut row);
+        certain(some(number).map(|_| row).ok_or(self))
+    }
+
+    /// How its sessions are begun.
+    pub fn authentication(&self) -> AuthenticationAlgorithm {
+        certain(self.into_suite()[0].try_into())
+    }
+
+    /// How its packets are sealed.
+    pub fn integrity(&self) -> IntegrityAlgorithm {
+        certain(self.into_suite()[1].try_into())
+    }
+
+    /// How its packets are kept secret.
+    pub fn confidentiality(&self) -> ConfidentialityAlgorithm {
+        certain(self.into_suite()[2].try_into())
+    }
+}
+
+#[cfg(test)]
+mod tests {
+    use super::*;
+
+    /// P3.
+    #[test]
+    fn requests() {
+        let channel = Channel::new(1).unwrap();
+        let message = Message::from(GetChannelCipherSuites::new(channel, 2).unwrap());
+        assert_eq!(message.data(), [0x01, 0x00, 0x02]);
+        assert_eq!((message.netfn_raw(), message.cmd()), (0x06, 0x54));
+        assert_eq!(
+            GetChannelCipherSuites::new(channel, 0x40),
+            Err(Error::BadIndex)
+        );
+    }
+
+    #[test]
+    fn parts() {
+        for length in 0..=16 {
+            let part = ChannelCipherSuites::parse(&[0xC0; 16][..length]).unwrap();
+            assert_eq!(part[..], [0xC0; 16][..length]);
+        }
+        assert_eq!(
+            ChannelCipherSuites::parse(&[0; 17]),
+            Err(Error::TooMuchData)
+        );
+    }
+
+    /// P10: the first step gives nothing, the second one does.
+    #[test]
+    fn steps() {
+        let mut reading =
+            ChannelCipherSuites::parse_full_data(&[0xC0, 0x14, 0xC0, 0x03, 0x01, 0x41, 0x81]);
+        assert_eq!(reading.next(), None);
+        assert_eq!(reading.next(), Some(CipherSuite::Id3));
+        assert_eq!(reading.next(), None);
+        let mut failed = ChannelCipherSuites::parse_full_data(&[0xC1, 0xC0, 0x03, 0, 0, 0]);
+        assert_eq!([failed.next(), failed.next(), failed.next()], [None; 3]);
+    }
+
+    /// All twenty, so that no suite has an algorithm without a name.
+    #[test]
+    fn suites() {
+        for id in 0..20 {
+            let suite = CipherSuite::from_id(id).unwrap();
+            assert_eq!(suite.id(), id);
+            assert_eq!(format!("{suite:?}"), format!("Id{id}"));
+            let row = [
+                suite.authentication().into(),
+                suite.integrity().into(),
+                suite.confidentiality().into(),
+            ];
+            assert_eq!(suite.into_suite(), row);
+            assert_eq!(CipherSuite::from_suite(row), Some(suite));
+        }
+        assert_eq!((20..=u8::MAX).find_map(CipherSuite::from_id), None);
+        assert_eq!(CipherSuite::from_suite([0, 0, 1]), None);
+        assert_eq!(
+            CipherSuite::Id17.confidentiality(),
+            ConfidentialityAlgorithm::AesCbc128
+        );
+    }
+}

@@ -1,0 +1,151 @@
+//! Authentication: its types and levels, and the commands of a session.
+
+mod activate_session;
+mod algorithms;
+mod get_channel_authentication_capabilities;
+mod get_channel_cipher_suites;
+mod get_session_challenge;
+
+pub use activate_session::{ActivateSession, BeginSessionInfo};
+pub use algorithms::{AuthenticationAlgorithm, ConfidentialityAlgorithm, IntegrityAlgorithm};
+pub use get_channel_authentication_capabilities::{
+    ChannelAuthenticationCapabilities, GetChannelAuthenticationCapabilities,
+};
+pub use get_channel_cipher_suites::{
+    ChannelCipherSuites, CipherSuite, GetChannelCipherSuites, Iter,
+};
+pub use get_session_challenge::{GetSessionChallenge, SessionChallenge};
+
+use crate::number::{accepted, certain, show};
+use crate::sys;
+use std::cmp::Ordering;
+use std::fmt;
+
+/// An authentication type. Its text is its name.
+#[derive(Clone, Copy, Debug, PartialEq, Eq, Hash)]
+#[allow(missing_docs)] // The standard's names.
+pub enum AuthType {
+    None,
+    MD2,
+    MD5,
+    Key,
+}
+
+impl AuthType {
+    /// [`Ordering::Greater`] where this type is the stronger one.
+    pub fn compare_strength(&self, other: &Self) -> Ordering {
+        let number = sys::compare_strength((*self).into(), (*other).into());
+        certain(accepted(number)).cmp(&1)
+    }
+}
+
+impl TryFrom<u8> for AuthType {
+    type Error = ();
+
+    fn try_from(value: u8) -> Result<Self, ()> {
+        Ok(match value {
+            0x00 => Self::None,
+            0x01 => Self::MD2,
+            0x02 => Self::MD5,
+            0x04 => Self::Key,
+            _ => return Err(()),
+        })
+    }
+}
+
+impl From<AuthType> for u8 {
+    fn from(auth_type: AuthType) -> Self {
+        match auth_type {
+            AuthType::None => 0x00,
+            AuthType::MD2 => 0x01,
+            AuthType::MD5 => 0x02,
+            AuthType::Key => 0x04,
+        }
+    }
+}
+
+impl fmt::Display for AuthType {
+    fn fmt(&self, f: &mut fmt::Formatter<'_>) -> fmt::Result {
+        show(f, |out| sys::auth_type_name((*self).into(), out))
+    }
+}
+
+/// The privilege level of a session.
+#[derive(Clone, Copy, Debug, PartialEq, Eq, Hash)]
+#[allow(missing_docs)] // The standard's names; the last is spelt as in the crate ipmi-rs-core.
+pub enum PrivilegeLevel {
+    Callback,
+    User,
+    Operator,
+    Administrator,
+    OemProperietary,
+}
+
+impl TryFrom<u8> for PrivilegeLevel {
+    type Error = ();
+
+    /// By the low nibble.
+    fn try_from(value: u8) -> Result<Self, ()> {
+        Ok(match value % 0x10 {
+            1 => Self::Callback,
+            2 => Self::User,
+            3 => Self::Operator,
+            4 => Self::Administrator,
+            5 => Self::OemProperietary,
+            _ => return Err(()),
+        })
+    }
+}
+
+impl From<PrivilegeLevel> for u8 {
+    fn from(level: PrivilegeLevel) -> Self {
+        match level {
+            PrivilegeLevel::Callback => 1,
+            PrivilegeLevel::User => 2,
+            PrivilegeLevel::Operator => 3,
+            PrivilegeLevel::Administrator => 4,
+            PrivilegeLevel::OemProperietary => 5,
+        }
+    }
+}
+
+#[cfg(test)]
+mod tests {
+    use super::*;
+
+    #[test]
+    fn numbers() {
+        for value in 0..=u8::MAX {
+            if let Ok(auth_type) = AuthType::try_from(value) {
+                assert_eq!(u8::from(auth_type), value);
+                assert_eq!(auth_type.to_string(), format!("{auth_type:?}"));
+            }
+            let level = PrivilegeLevel::try_from(value).map(u8::from);
+            let nibble = value & 0x0F;
+            assert_eq!(
+                level,
+                if (1..=5).contains(&nibble) {
+                    Ok(nibble)
+                } else {
+                    Err(())
+                }
+            );
+        }
+        assert_eq!(
+            (0..=u8::MAX)
+                .filter_map(|v| AuthType::try_from(v).ok())
+                .count(),
+            4
+        );
+    }
+
+    #[test]
+    fn strength() {
+        let order = [AuthType::None, AuthType::Key, AuthType::MD2, AuthType::MD5];
+        for (i, one) in order.iter().enumerate() {
+            for (j, other) in order.iter().enumerate() {
+                assert_eq!(one.compare_strength(other), i.cmp(&j));
+            }
+        }
+    }
+}

@@ -1,0 +1,13 @@
+//! The commands of the network function App.
+
+pub mod auth;
+pub mod get_channel_access;
+pub mod get_channel_info;
+
+pub use get_channel_access::{
+    ChannelAccess, ChannelAccessMode, ChannelAccessType, ChannelPrivilegeLevel, GetChannelAccess,
+};
+pub use get_channel_info::{
+    AuxChannelInfo, ChannelInfo, ChannelMediumType, ChannelProtocolType, ChannelSessionSupport,
+    GetChannelInfo,
+};

@@ -1,0 +1,138 @@
+//! The collector.
+
+use crate::app::auth::CipherSuite;
+use crate::number::{accepted, certain, part};
+use crate::sys::{self, CAPACITY, MISSING, PARTS};
+use crate::Error;
+
+/// Joins a list that arrives sixteen bytes at a time, in any order.
+///
+/// ```
+/// use ghjalvestru::{Collector, Error, Status};
+///
+/// let mut collector = Collector::new();
+/// collector.answer(0, &[0xC0, 0x03, 0x01, 0x41, 0x81, 0xC0, 0x08, 0x02, 0x42, 0x81, 0xC0, 0x11, 0x03, 0x44, 0x81, 0xC0])?;
+/// assert_eq!(collector.status(), Status::Missing(1));
+/// assert_eq!(collector.list(), Err(Error::Incomplete(1)));
+/// collector.answer(1, &[0x0C, 0x02, 0x43, 0x81])?;
+/// assert_eq!(collector.status(), Status::Complete(20));
+/// let numbers: Vec<u8> = collector.suites()?.iter().map(|suite| suite.id()).collect();
+/// assert_eq!(numbers, [3, 8, 17, 12]);
+/// # Ok::<(), Error>(())
+/// ```
+#[derive(Clone, Debug, PartialEq, Eq)]
+pub struct Collector {
+    bytes: [u8; CAPACITY],
+    marks: [u8; PARTS],
+}
+
+/// What a collector has heard.
+#[derive(Clone, Copy, Debug, PartialEq, Eq)]
+pub enum Status {
+    /// The whole list, of this length.
+    Complete(usize),
+    /// Not the whole list; the lowest index not heard.
+    Missing(u8),
+}
+
+impl Default for Collector {
+    fn default() -> Self {
+        Self {
+            bytes: [0; CAPACITY],
+            marks: [0; PARTS],
+        }
+    }
+}
+
+impl Collector {
+    /// One that has heard nothing.
+    pub fn new() -> Self {
+        Self::default()
+    }
+
+    /// Takes the answer to an index: the whole response data. A refusal changes nothing.
+    ///
+    /// Refuses [`Error::BadIndex`], [`Error::TooMuchData`], [`Error::Disagrees`], in this order.
+    pub fn answer(&mut self, index: u8, response: &[u8]) -> Result<(), Error> {
+        let Self { bytes, marks } = self;
+        accepted(sys::collector_answer(bytes, marks, index, response)).map(drop)
+    }
+
+    /// Is the list complete?
+    pub fn status(&self) -> Status {
+        // No other code touches the two arrays, so they are what calls make of fresh ones.
+        let number = certain(accepted(sys::collector_status(&self.bytes, &self.marks)));
+        match number.checked_sub(MISSING) {
+            Some(index) => Status::Missing(index as u8),
+            None => Status::Complete(number as usize),
+        }
+    }
+
+    /// The whole list, or [`Error::Incomplete`] with the lowest unheard index.
+    pub fn list(&self) -> Result<Vec<u8>, Error> {
+        part::<CAPACITY>(|out| sys::collector_list(&self.bytes, &self.marks, out))
+    }
+
+    /// The suites of the whole list, up to the first step of its reading that gives none, or [`Error::Incomplete`].
+    pub fn suites(&self) -> Result<Vec<CipherSuite>, Error> {
+        let numbers = part::<CAPACITY>(|out| sys::collector_suites(&self.bytes, &self.marks, out));
+        Ok(numbers?
+            .into_iter()
+            .filter_map(CipherSuite::from_id)
+            .collect())
+    }
+}
+
+#[cfg(test)]
+mod tests {
+    use super::*;
+
+    /// P11.
+    #[test]
+    fn an_empty_list() {
+        let mut collector = Collector::new();
+        assert_eq!(collector.status(), Status::Missing(0));
+        assert_eq!(collector.suites(), Err(Error::Incomplete(0)));
+        collector.answer(0, &[]).unwrap();
+        assert_eq!(collector.status(), Status::Complete(0));
+        assert_eq!(collector.list(), Ok(vec![]));
+        assert_eq!(collector.suites(), Ok(vec![]));
+    }
+
+    /// P12.
+    #[test]
+    fn in_any_order() {
+        let mut collector = Collector::default();
+        collector.answer(0, &[1; 16]).unwrap();
+        collector.answer(2, &[]).unwrap();
+        assert_eq!(collector.status(), Status::Missing(1));
+        collector.answer(1, &[2; 3]).unwrap();
+        assert_eq!(collector.status(), Status::Complete(19));
+        assert_eq!(collector.list(), Ok([[1; 16].as_slice(), &[2; 3]].concat()));
+    }
+
+    /// P13, and the other refusals: none changes the collector.
+    #[test]
+    fn refusals_change_nothing() {
+        let mut collector = Collector::new();
+        collector.answer(1, &[7; 3]).unwrap();
+        let before = collector.clone();
+        assert_eq!(collector.answer(2, &[7]), Err(Error::Disagrees));
+        assert_eq!(collector.answer(0x40, &[7; 17]), Err(Error::BadIndex));
+        assert_eq!(collector.answer(0x3F, &[7; 17]), Err(Error::TooMuchData));
+        assert_eq!(collector.answer(1, &[7; 3]), Ok(()));
+        assert_eq!(collector, before);
+    }
+
+    /// A full last part ends the list.
+    #[test]
+    fn the_longest_list() {
+        let mut collector = Collector::new();
+        for index in 0..=0x3F {
+            assert_eq!(collector.status(), Status::Missing(index));
+            collector.answer(index, &[index; 16]).unwrap();
+        }
+        assert_eq!(collector.status(), Status::Complete(1024));
+        assert_eq!(collector.list().unwrap().len(), 1024);
+    }
+}

@@ -1,0 +1,247 @@
+//! The C functions, on slices, each with its C name without `ghj_` and with C's number as its result.
+//!
+//! Each takes any bytes and any numbers; `include/ghjalvestru.h` says what it answers. The rest of the crate is made from
+//! these; they are public for a caller who wants to lend the buffer.
+
+#![allow(unsafe_code)]
+
+/// How many bytes a session's challenge has.
+pub const CHALLENGE: usize = 16;
+/// How many bytes a collector holds.
+pub const CAPACITY: usize = 1024;
+/// How many parts a collector holds.
+pub const PARTS: usize = 64;
+
+/// Set in a number that is a refusal.
+pub const REFUSED: u64 = 1 << 63;
+/// Added to the lowest unheard index by [`collector_status`].
+pub const MISSING: u64 = 1 << 16;
+/// Nothing has this number, or there is none left; not a refusal.
+pub const NONE: u64 = 1 << 17;
+
+/// Functions from bytes to bytes.
+macro_rules! from_bytes {
+    ($($(#[$doc:meta])* $name:ident = $symbol:ident;)*) => {
+        unsafe extern "C" {
+            $(fn $symbol(given: *const u8, given_length: usize, out: *mut u8, out_length: usize) -> u64;)*
+        }
+        $(
+            $(#[$doc])*
+            pub fn $name(given: &[u8], out: &mut [u8]) -> u64 {
+                // SAFETY: each pointer goes with its slice's length; `out` is lent to this call alone. Nothing else is
+                // read or written, whatever the bytes are.
+                unsafe { $symbol(given.as_ptr(), given.len(), out.as_mut_ptr(), out.len()) }
+            }
+        )*
+    };
+}
+
+from_bytes! {
+    /// Reads a response of Get Channel Access.
+    access = ghj_access;
+    /// Reads a response of Get Channel Info.
+    info = ghj_info;
+    /// Reads a response of Get Channel Authentication Capabilities.
+    capabilities = ghj_capabilities;
+    /// Reads a response of Get Session Challenge.
+    challenge = ghj_challenge;
+    /// Reads a response of Activate Session.
+    activation = ghj_activation;
+    /// Reads a response of Get Channel Cipher Suites.
+    suites = ghj_suites;
+    /// The numbers of the suites of a whole list.
+    suite_numbers = ghj_suite_numbers;
+}
+
+/// Functions from numbers to bytes.
+macro_rules! from_numbers {
+    ($($(#[$doc:meta])* $name:ident($($number:ident),*) = $symbol:ident;)*) => {
+        unsafe extern "C" {
+            $(fn $symbol($($number: u8,)* out: *mut u8, out_length: usize) -> u64;)*
+        }
+        $(
+            $(#[$doc])*
+            pub fn $name($($number: u8,)* out: &mut [u8]) -> u64 {
+                // SAFETY: the pointer goes with its slice's length, and `out` is lent to this call alone. Nothing else is
+                // written, whatever the numbers are.
+                unsafe { $symbol($($number,)* out.as_mut_ptr(), out.len()) }
+            }
+        )*
+    };
+}
+
+from_numbers! {
+    /// The data of Get Channel Access; the kind is 1 for non-volatile, 2 for volatile.
+    access_request(channel, kind) = ghj_access_request;
+    /// The data of Get Channel Info.
+    info_request(channel) = ghj_info_request;
+    /// The data of Get Channel Authentication Capabilities.
+    capabilities_request(channel, privilege) = ghj_capabilities_request;
+    /// The data of Get Channel Cipher Suites.
+    suites_request(channel, index) = ghj_suites_request;
+    /// The text of a channel.
+    channel_text(channel) = ghj_channel_text;
+    /// The text of an access mode.
+    mode_text(mode) = ghj_mode_text;
+    /// The text of a channel's privilege limit.
+    limit_text(limit) = ghj_limit_text;
+    /// The text of a medium.
+    medium_text(medium) = ghj_medium_text;
+    /// The text of a protocol.
+    protocol_text(protocol) = ghj_protocol_text;
+    /// The text of a session support.
+    session_support_text(support) = ghj_session_support_text;
+    /// The name of an authentication type.
+    auth_type_name(auth_type) = ghj_auth_type_name;
+    /// The three algorithms of a suite.
+    suite_algorithms(suite) = ghj_suite_algorithms;
+}
+
+unsafe extern "C" {
+    fn ghj_challenge_request(
+        auth_type: u8,
+        name: *const u8,
+        name_length: usize,
+        out: *mut u8,
+        out_length: usize,
+    ) -> u64;
+    fn ghj_activation_request(
+        auth_type: u8,
+        privilege: u8,
+        challenge: &[u8; CHALLENGE],
+        sequence: u32,
+        out: *mut u8,
+        out_length: usize,
+    ) -> u64;
+    safe fn ghj_best_auth(key: u8, md5: u8, md2: u8, none: u8) -> u64;
+    safe fn ghj_compare_strength(auth_type: u8, other: u8) -> u64;
+    safe fn ghj_suite_of(authentication: u8, integrity: u8, confidentiality: u8) -> u64;
+    fn ghj_suite_step(
+        list: *const u8,
+        list_length: usize,
+        position: &mut usize,
+        failed: &mut u8,
+    ) -> u64;
+}
+
+/// The data of Get Session Challenge.
+pub fn challenge_request(auth_type: u8, name: &[u8], out: &mut [u8]) -> u64 {
+    // SAFETY: each pointer goes with its slice's length, and `out` is lent to this call alone.
+    unsafe {
+        ghj_challenge_request(
+            auth_type,
+            name.as_ptr(),
+            name.len(),
+            out.as_mut_ptr(),
+            out.len(),
+        )
+    }
+}
+
+/// The data of Activate Session.
+pub fn activation_request(
+    auth_type: u8,
+    privilege: u8,
+    challenge: &[u8; CHALLENGE],
+    sequence: u32,
+    out: &mut [u8],
+) -> u64 {
+    let (start, length) = (out.as_mut_ptr(), out.len());
+    // SAFETY: the pointer goes with its slice's length, and `out` is lent to this call alone.
+    unsafe { ghj_activation_request(auth_type, privilege, challenge, sequence, start, length) }
+}
+
+/// The strongest of the authentication types that are offered: 0 is not offered.
+pub fn best_auth(key: u8, md5: u8, md2: u8, none: u8) -> u64 {
+    ghj_best_auth(key, md5, md2, none)
+}
+
+/// 0 where the first is weaker, 1 where they are equal, 2 where it is stronger.
+pub fn compare_strength(auth_type: u8, other: u8) -> u64 {
+    ghj_compare_strength(auth_type, other)
+}
+
+/// The suite of three algorithms.
+pub fn suite_of(authentication: u8, integrity: u8, confidentiality: u8) -> u64 {
+    ghj_suite_of(authentication, integrity, confidentiality)
+}
+
+/// One step of the reading of a list.
+pub fn suite_step(list: &[u8], position: &mut usize, failed: &mut u8) -> u64 {
+    // SAFETY: the pointer goes with its slice's length; the references are C's to use for this call. Any position is
+    // allowed, one past the end too.
+    unsafe { ghj_suite_step(list.as_ptr(), list.len(), position, failed) }
+}
+
+unsafe extern "C" {
+    fn ghj_collector_answer(
+        bytes: &mut [u8; CAPACITY],
+        marks: &mut [u8; PARTS],
+        index: u8,
+        response: *const u8,
+        response_length: usize,
+    ) -> u64;
+    fn ghj_collector_take(
+        collector: &mut Lent,
+        index: u8,
+        response: *const u8,
+        response_length: usize,
+    ) -> u64;
+    safe fn ghj_collector_status(bytes: &[u8; CAPACITY], marks: &[u8; PARTS]) -> u64;
+    fn ghj_collector_list(
+        bytes: &[u8; CAPACITY],
+        marks: &[u8; PARTS],
+        out: *mut u8,
+        out_length: usize,
+    ) -> u64;
+    fn ghj_collector_suites(
+        bytes: &[u8; CAPACITY],
+        marks: &[u8; PARTS],
+        out: *mut u8,
+        out_length: usize,
+    ) -> u64;
+}
+
+/// The answer to an index, for a collector.
+pub fn collector_answer(
+    bytes: &mut [u8; CAPACITY],
+    marks: &mut [u8; PARTS],
+    index: u8,
+    response: &[u8],
+) -> u64 {
+    // SAFETY: the pointer goes with its slice's length; the references are C's to use for this call.
+    unsafe { ghj_collector_answer(bytes, marks, index, response.as_ptr(), response.len()) }
+}
+
+/// A collector as C has it, for [`collector_take`].
+#[repr(C)]
+#[derive(Clone, Copy, Debug, PartialEq, Eq)]
+pub struct Lent {
+    /// What was heard, zeros elsewhere.
+    pub bytes: [u8; CAPACITY],
+    /// One more than each part's length; 0 where it was not heard.
+    pub marks: [u8; PARTS],
+}
+
+/// The same as [`collector_answer`], the collector lent whole: by copies, so slower.
+pub fn collector_take(collector: &mut Lent, index: u8, response: &[u8]) -> u64 {
+    // SAFETY: as for the answer; the struct is laid out as in C.
+    unsafe { ghj_collector_take(collector, index, response.as_ptr(), response.len()) }
+}
+
+/// Whether a collector is complete.
+pub fn collector_status(bytes: &[u8; CAPACITY], marks: &[u8; PARTS]) -> u64 {
+    ghj_collector_status(bytes, marks)
+}
+
+/// The list of a collector.
+pub fn collector_list(bytes: &[u8; CAPACITY], marks: &[u8; PARTS], out: &mut [u8]) -> u64 {
+    // SAFETY: the pointer goes with its slice's length, and `out` is lent to this call alone.
+    unsafe { ghj_collector_list(bytes, marks, out.as_mut_ptr(), out.len()) }
+}
+
+/// The numbers of the suites of a collector's list.
+pub fn collector_suites(bytes: &[u8; CAPACITY], marks: &[u8; PARTS], out: &mut [u8]) -> u64 {
+    // SAFETY: as for the list.
+    unsafe { ghj_collector_suites(bytes, marks, out.as_mut_ptr(), out.len()) }
+}
