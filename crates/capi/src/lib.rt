@@ -14,6 +14,7 @@ use auth::get_channel_authentication_capabilities::ChannelAuthenticationCapabili
 use base::refusal::Refusal;
 use base::verdict::Verdict;
 use base::written::Written;
+use base::written::place;
 use channel::get_channel_access::AccessAnswer;
 use channel::get_channel_access::ChannelAccess;
 use collector::Collector;
@@ -188,16 +189,15 @@ pub extern "C" fn ghj_activation(response: &[u8], out: &mut [u8]) -> u64
     }
 }
 
-// The part of the list that the answer has.
+// The part of the list that the answer has: an accepted answer's own bytes.
 #[no_mangle]
 pub extern "C" fn ghj_suites(response: &[u8], out: &mut [u8]) -> u64
     ensures { λ r. ⌜ Codes (suitesRecord (now (response .entry))) r (now (out .entry)) (now (out .exit)) ⌝ }
 {
     let answer = ChannelCipherSuites::parse(response);
     let verdict = answer.verdict;
-    let suites = answer.suites;
     match verdict {
-        Verdict::Accepted => code(suites.write(out)),
+        Verdict::Accepted => code(place(response, out)),
         Verdict::Refused(refusal) => refused(refusal),
     }
 }

@@ -1,5 +1,6 @@
 use borrow.Author.Needs.{needs}
-use Rattle.capi.proofs.Laws.{coding, fell, gave, refused-coded}
+use Rattle.base.proofs.verdict.Laws.{fell, gave}
+use Rattle.capi.proofs.Laws.{coding, refused-coded}
 use Rattle.auth.specs.Auth.{saidAuthType}
 use Rattle.base.specs.declared.refusal.Refusal.the-variants.{InvalidAuthType}
 use Rattle.base.proofs.Named.{told}
@@ -17,7 +18,7 @@ returns-2 : tie.Need-returns-2
 returns-2 c =
     let k = c .before .before .before .before .before .before .before .before .before .before .kind .given in
     let n = told saidAuthType (some (k .0 .0)) (c .before .before .before .before .before .before .before .before .before .before .before .before .try-from .ensures) (k .1) refl in
-    let e = gave (c .before .before .before .before .before .before .before .before .new .ensures) (c .before .before .before .before .before .enum-told2 .given .1) in
+    let e = gave _ (c .before .before .before .before .before .before .before .before .new .ensures) (c .before .before .before .before .before .enum-told2 .given .1) in
     rw (n, e) (coding (c .code .ensures) (c .before .before .before .write .ensures))
 
 returns-3 : tie.Need-returns-3
@@ -25,7 +26,7 @@ returns-3 c =
     let k = c .before .before .before .before .before .before .before .kind .given in
     let n = told saidAuthType (some (k .0 .0)) (c .before .before .before .before .before .before .before .before .before .try-from .ensures) (k .1) refl in
     let v = c .before .before .verdict .given in
-    let e = fell (v .0 .0) (c .before .before .before .before .before .new .ensures) (v .1) in
+    let e = fell _ (v .0 .0) (c .before .before .before .before .before .new .ensures) (v .1) .0 in
     refused-coded (v .0 .0) (c .before .before .before .before .before .before .before .before .before .before .before .before .args .out .now) (rw (n, e)) (c .refused2 .ensures)
 
 pub ghj-challenge-request-spec : {M : Type 1} → statement M
