@@ -1,13 +1,12 @@
-/* Ghjalvestru from C: readers of IPMI channel and session answers, and the collector of a list of cipher suites.
+/* Ghjalvestru from C: readers of IPMI channel and session answers, writers of their requests, texts, the table of cipher
+ * suites and the collector of a list of them.
  *
  * Every function takes any bytes and any numbers. A pair `const uint8_t *x, size_t x_length` is a slice, which may be
  * empty; its pointer is never null. Slices that are written to and other slices do not overlap.
  *
- * Every function returns a number: what was accepted (0, or the length that was written), or a refusal. A refusal changes
- * no byte that was lent. Records and messages are written at the start of `out`, and nothing behind them; they are refused
- * with GHJ_NO_ROOM where `out` is too short.
- *
- * So far: the readers of the six responses, the list of suites, the collector. */
+ * Every function returns a number: what was accepted (0, the length that was written, or what the function says), or a
+ * refusal. A refusal changes no byte that was lent. Records and messages are written at the start of `out`, and nothing
+ * behind them; they are refused with GHJ_NO_ROOM where `out` is too short. */
 #ifndef GHJALVESTRU_H
 #define GHJALVESTRU_H
 
@@ -40,6 +39,35 @@ enum ghj_refusal {
     GHJ_BAD_LINE = 14
 };
 
+/* No type, row or suite: "answers none, which counts as accepted". */
+#define GHJ_NONE ((uint64_t)1 << 17)
+
+/* Requests: the data of each command at the start of `out`; the number is their length. Refusals come in the order of the
+ * arguments, then GHJ_NO_ROOM. */
+
+/* Get Channel Access, 41h. 2 bytes: GHJ_NO_CHANNEL, then GHJ_NO_FORM where kind is not 1 (non-volatile) or 2
+ * (volatile). */
+uint64_t ghj_access_request(uint8_t channel, uint8_t kind, uint8_t *out, size_t out_length);
+
+/* Get Channel Info, 42h. 1 byte: GHJ_NO_CHANNEL. */
+uint64_t ghj_info_request(uint8_t channel, uint8_t *out, size_t out_length);
+
+/* Get Channel Authentication Capabilities, 38h. 2 bytes: GHJ_NO_CHANNEL, then GHJ_INVALID_PRIVILEGE_LEVEL with the byte
+ * where privilege is not 1 to 5. */
+uint64_t ghj_capabilities_request(uint8_t channel, uint8_t privilege, uint8_t *out, size_t out_length);
+
+/* Get Session Challenge, 39h. 17 bytes: GHJ_INVALID_AUTH_TYPE with the byte where auth_type is not 0, 1, 2 or 4, then
+ * GHJ_LONG_NAME where the name has more than 16 bytes. */
+uint64_t ghj_challenge_request(uint8_t auth_type, const uint8_t *name, size_t name_length, uint8_t *out,
+                               size_t out_length);
+
+/* Activate Session, 3Ah. 22 bytes: GHJ_INVALID_AUTH_TYPE, then GHJ_INVALID_PRIVILEGE_LEVEL, each with the byte. */
+uint64_t ghj_activation_request(uint8_t auth_type, uint8_t privilege, const uint8_t challenge[16], uint32_t sequence,
+                                uint8_t *out, size_t out_length);
+
+/* Get Channel Cipher Suites, 54h. 3 bytes: GHJ_NO_CHANNEL, then GHJ_BAD_INDEX above 0x3F. */
+uint64_t ghj_suites_request(uint8_t channel, uint8_t index, uint8_t *out, size_t out_length);
+
 /* Responses. `response` is the data behind the completion code; the number is the record's length. */
 
 /* Get Channel Access, 41h. 5 bytes: mode; alerting, per-message and user-level authentication DISABLED (0 or 1 each);
@@ -64,6 +92,40 @@ uint64_t ghj_activation(const uint8_t *response, size_t response_length, uint8_t
 
 /* Get Channel Cipher Suites, 54h. The part of the list that the answer has, 0 to 16 bytes. */
 uint64_t ghj_suites(const uint8_t *response, size_t response_length, uint8_t *out, size_t out_length);
+
+/* Texts, without a zero behind: the number is their length. */
+
+/* A channel: GHJ_NO_CHANNEL, then GHJ_NO_ROOM. */
+uint64_t ghj_channel_text(uint8_t channel, uint8_t *out, size_t out_length);
+
+/* The fields of an access record: mode and privilege limit. */
+uint64_t ghj_mode_text(uint8_t mode, uint8_t *out, size_t out_length);
+uint64_t ghj_limit_text(uint8_t limit, uint8_t *out, size_t out_length);
+
+/* The fields of an info record: medium, protocol and session support. */
+uint64_t ghj_medium_text(uint8_t medium, uint8_t *out, size_t out_length);
+uint64_t ghj_protocol_text(uint8_t protocol, uint8_t *out, size_t out_length);
+uint64_t ghj_session_support_text(uint8_t support, uint8_t *out, size_t out_length);
+
+/* An authentication type's name: GHJ_INVALID_AUTH_TYPE with the byte, then GHJ_NO_ROOM. */
+uint64_t ghj_auth_type_name(uint8_t auth_type, uint8_t *out, size_t out_length);
+
+/* The number of the strongest authentication type that is offered (each argument: 0 for not offered), or GHJ_NONE. */
+uint64_t ghj_best_auth(uint8_t key, uint8_t md5, uint8_t md2, uint8_t none);
+
+/* 0 where auth_type is weaker than other, 1 equal, 2 stronger; GHJ_INVALID_AUTH_TYPE with the first byte that is none. */
+uint64_t ghj_compare_strength(uint8_t auth_type, uint8_t other);
+
+/* A suite's three algorithms, 3 bytes: authentication, integrity, confidentiality. GHJ_NONE, and nothing written, where
+ * the number has no row in the table. */
+uint64_t ghj_suite_algorithms(uint8_t suite, uint8_t *out, size_t out_length);
+
+/* The suite of three algorithms, or GHJ_NONE. */
+uint64_t ghj_suite_of(uint8_t authentication, uint8_t integrity, uint8_t confidentiality);
+
+/* One step of the reading of a list: the suite's number, or GHJ_NONE. Moves *position and sets *failed to 0 or 1; any other
+ * number than 0 counts as failed. A reading starts with both 0. */
+uint64_t ghj_suite_step(const uint8_t *list, size_t list_length, size_t *position, uint8_t *failed);
 
 /* The numbers of the suites of a whole list, a byte each, up to the first step of the reading that gives none. */
 uint64_t ghj_suite_numbers(const uint8_t *list, size_t list_length, uint8_t *out, size_t out_length);

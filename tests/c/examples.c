@@ -70,6 +70,133 @@ static void responses(void) {
     check("suites", refused(ghj_suites(part, 17, out, sizeof out), GHJ_TOO_MUCH_DATA, 0));
 }
 
+/* The calls that write into a buffer, so that each is tried with any room. */
+#define WRITER(name, call)                                                                                              \
+    static uint64_t name(uint8_t *out, size_t room) { return call; }
+static const uint8_t sixteen[16] = {1, 2, 3, 4, 5, 6, 7, 8, 9, 10, 11, 12, 13, 14, 15, 16};
+WRITER(access_request, ghj_access_request(0x0E, 1, out, room))
+WRITER(access_volatile, ghj_access_request(0x0B, 2, out, room))
+WRITER(info_request, ghj_info_request(0x0F, out, room))
+WRITER(capabilities_request, ghj_capabilities_request(1, 4, out, room))
+WRITER(challenge_request, ghj_challenge_request(2, (const uint8_t *)"admin", 5, out, room))
+WRITER(challenge_longest, ghj_challenge_request(4, sixteen, 16, out, room))
+WRITER(activation_request, ghj_activation_request(1, 5, sixteen, 0x12345678, out, room))
+WRITER(suites_request, ghj_suites_request(1, 2, out, room))
+WRITER(channel_text, ghj_channel_text(1, out, room))
+WRITER(system_text, ghj_channel_text(0x0F, out, room))
+WRITER(mode_text, ghj_mode_text(2, out, room))
+WRITER(mode_unknown, ghj_mode_text(5, out, room))
+WRITER(limit_text, ghj_limit_text(4, out, room))
+WRITER(medium_text, ghj_medium_text(4, out, room))
+WRITER(medium_oem, ghj_medium_text(0x60, out, room))
+WRITER(protocol_text, ghj_protocol_text(1, out, room))
+WRITER(session_text, ghj_session_support_text(2, out, room))
+WRITER(auth_name, ghj_auth_type_name(2, out, room))
+WRITER(algorithms, ghj_suite_algorithms(17, out, room))
+
+/* What the call writes, and that a buffer which is too short by one stays as it was. */
+static void writes(const char *what, uint64_t (*write)(uint8_t *, size_t), const void *message, size_t length) {
+    uint8_t out[32], before[32];
+    memset(out, 0xA5, sizeof out);
+    memcpy(before, out, sizeof out);
+    check(what, refused(write(out, length - 1), GHJ_NO_ROOM, 0) && memcmp(out, before, sizeof out) == 0);
+    memcpy(before, message, length);
+    check(what, write(out, sizeof out) == length && memcmp(out, before, sizeof out) == 0);
+}
+
+/* The refusal comes before any lack of room. */
+static void refuses(const char *what, uint64_t number, unsigned refusal, unsigned carried) {
+    check(what, refused(number, refusal, carried));
+}
+
+static void requests(void) {
+    static const uint8_t padded[] = {2, 'a', 'd', 'm', 'i', 'n', 0, 0, 0, 0, 0, 0, 0, 0, 0, 0, 0};
+    static const uint8_t longest[] = {4, 1, 2, 3, 4, 5, 6, 7, 8, 9, 10, 11, 12, 13, 14, 15, 16};
+    static const uint8_t activation[] = {1, 5, 1,  2,  3,  4,  5,  6,    7,    8,    9,
+                                         10, 11, 12, 13, 14, 15, 16, 0x78, 0x56, 0x34, 0x12};
+    writes("P5", access_request, "\x0E\x40", 2);
+    writes("access request", access_volatile, "\x0B\x80", 2);
+    writes("info request", info_request, "\x0F", 1);
+    writes("P4", capabilities_request, "\x81\x04", 2);
+    writes("challenge request", challenge_request, padded, 17);
+    writes("challenge request", challenge_longest, longest, 17);
+    writes("activation request", activation_request, activation, 22);
+    writes("P3", suites_request, "\x01\x00\x02", 3);
+    uint8_t out[32];
+    /* P1, P2 */
+    check("P1", ghj_info_request(0x0B, out, 1) == 1 && out[0] == 0x0B);
+    refuses("P1", ghj_info_request(0x0C, out, 0), GHJ_NO_CHANNEL, 0);
+    check("P2", ghj_info_request(0x0E, out, 1) == 1 && out[0] == 0x0E);
+    refuses("P2", ghj_info_request(0x10, out, 0), GHJ_NO_CHANNEL, 0);
+    refuses("access request", ghj_access_request(0x0C, 0, out, 0), GHJ_NO_CHANNEL, 0);
+    refuses("access request", ghj_access_request(0, 0, out, 0), GHJ_NO_FORM, 0);
+    refuses("access request", ghj_access_request(0, 3, out, 0), GHJ_NO_FORM, 0);
+    refuses("access request", ghj_access_request(0, 0x40, out, 0), GHJ_NO_FORM, 0);
+    refuses("capabilities request", ghj_capabilities_request(0x0D, 0, out, 0), GHJ_NO_CHANNEL, 0);
+    refuses("capabilities request", ghj_capabilities_request(0, 0, out, 0), GHJ_INVALID_PRIVILEGE_LEVEL, 0);
+    refuses("capabilities request", ghj_capabilities_request(0, 6, out, 0), GHJ_INVALID_PRIVILEGE_LEVEL, 6);
+    refuses("capabilities request", ghj_capabilities_request(0, 0xF4, out, 0), GHJ_INVALID_PRIVILEGE_LEVEL, 0xF4);
+    refuses("challenge request", ghj_challenge_request(3, longest, 17, out, 0), GHJ_INVALID_AUTH_TYPE, 3);
+    refuses("challenge request", ghj_challenge_request(0, longest, 17, out, 0), GHJ_LONG_NAME, 0);
+    refuses("activation request", ghj_activation_request(5, 0, sixteen, 0, out, 0), GHJ_INVALID_AUTH_TYPE, 5);
+    refuses("activation request", ghj_activation_request(4, 0x14, sixteen, 0, out, 0), GHJ_INVALID_PRIVILEGE_LEVEL, 0x14);
+    refuses("suites request", ghj_suites_request(0x0C, 0x40, out, 0), GHJ_NO_CHANNEL, 0);
+    refuses("P3", ghj_suites_request(1, 0x40, out, 0), GHJ_BAD_INDEX, 0);
+}
+
+static void texts(void) {
+    writes("channel text", channel_text, "Channel 0x1", 11);
+    writes("channel text", system_text, "System channel", 14);
+    writes("mode text", mode_text, "Always Available", 16);
+    writes("mode text", mode_unknown, "Unknown (0x05)", 14);
+    writes("limit text", limit_text, "Administrator", 13);
+    writes("medium text", medium_text, "802.3 LAN", 9);
+    writes("medium text", medium_oem, "OEM (0x60)", 10);
+    writes("protocol text", protocol_text, "IPMB-1.0", 8);
+    writes("session text", session_text, "Multi-session", 13);
+    writes("auth name", auth_name, "MD5", 3);
+    uint8_t out[1];
+    refuses("channel text", ghj_channel_text(0x0C, out, 0), GHJ_NO_CHANNEL, 0);
+    refuses("auth name", ghj_auth_type_name(3, out, 0), GHJ_INVALID_AUTH_TYPE, 3);
+}
+
+static void types(void) {
+    check("best auth", ghj_best_auth(1, 1, 1, 1) == 2 && ghj_best_auth(1, 0x80, 0, 0) == 2);
+    check("best auth", ghj_best_auth(1, 0, 1, 1) == 1 && ghj_best_auth(1, 0, 0, 1) == 4);
+    check("best auth", ghj_best_auth(0, 0, 0, 1) == 0 && ghj_best_auth(0, 0, 0, 0) == GHJ_NONE);
+    static const uint8_t weakest_first[] = {0, 4, 1, 2};
+    for (unsigned i = 0; i < 4; i++)
+        for (unsigned j = 0; j < 4; j++)
+            check("strength", ghj_compare_strength(weakest_first[i], weakest_first[j]) == (i < j ? 0u : i == j ? 1u : 2u));
+    refuses("strength", ghj_compare_strength(3, 5), GHJ_INVALID_AUTH_TYPE, 3);
+    refuses("strength", ghj_compare_strength(0, 5), GHJ_INVALID_AUTH_TYPE, 5);
+}
+
+static void table(void) {
+    static const char *const rows[] = {"000", "100", "110", "111", "112", "113", "200", "220", "221", "222",
+                                       "223", "230", "231", "232", "233", "300", "340", "341", "342", "343"};
+    for (unsigned n = 0; n < 256; n++) {
+        uint8_t out[4] = {0xA5, 0xA5, 0xA5, 0xA5};
+        uint64_t number = ghj_suite_algorithms((uint8_t)n, out, sizeof out);
+        const char *row = n < 20 ? rows[n] : "";
+        if (n < 20) {
+            check("table", number == 3 && out[0] == row[0] - '0' && out[1] == row[1] - '0' && out[2] == row[2] - '0');
+            check("table", ghj_suite_of(out[0], out[1], out[2]) == n);
+        } else {
+            check("table", number == GHJ_NONE && out[0] == 0xA5 && out[1] == 0xA5 && out[2] == 0xA5);
+        }
+        check("table", out[3] == 0xA5);
+    }
+    check("table", ghj_suite_of(0, 1, 0) == GHJ_NONE && ghj_suite_of(3, 4, 4) == GHJ_NONE);
+    writes("table", algorithms, "\x03\x04\x01", 3);
+}
+
+static void step(const char *what, const uint8_t *list, size_t length, size_t position, uint8_t failed, uint64_t number,
+                 size_t position_after, uint8_t failed_after) {
+    check(what, ghj_suite_step(list, length, &position, &failed) == number);
+    check(what, position == position_after && failed == failed_after);
+}
+
 static void lists(void) {
     uint8_t out[4];
     /* P10 */
@@ -77,6 +204,15 @@ static void lists(void) {
     check("P10", ghj_suite_numbers(unknown, 7, out, sizeof out) == 0);
     check("list", ghj_suite_numbers(unknown + 2, 5, out, sizeof out) == 1 && out[0] == 3);
     check("list", refused(ghj_suite_numbers(unknown + 2, 5, out, 0), GHJ_NO_ROOM, 0));
+    step("P10", unknown, 7, 0, 0, GHJ_NONE, 2, 0);
+    step("P10", unknown, 7, 2, 0, 3, 7, 0);
+    step("step", unknown, 7, 7, 0, GHJ_NONE, 7, 0);
+    step("step", unknown, 7, SIZE_MAX, 0, GHJ_NONE, SIZE_MAX, 0);
+    step("step", unknown, 7, 1, 0, GHJ_NONE, 2, 1);
+    step("step", unknown, 7, 2, 1, GHJ_NONE, 2, 1);
+    step("step", unknown, 7, 2, 0x80, GHJ_NONE, 2, 1);
+    step("step", unknown, 6, 2, 0, GHJ_NONE, 6, 0);
+    step("step", unknown, 3, 2, 0, GHJ_NONE, 3, 0);
 }
 
 static uint64_t answer(struct ghj_collector *c, uint8_t index, const uint8_t *part, size_t length) {
@@ -115,7 +251,11 @@ static void collectors(void) {
 }
 
 int main(void) {
+    requests();
     responses();
+    texts();
+    types();
+    table();
     lists();
     collectors();
     if (faults == 0)

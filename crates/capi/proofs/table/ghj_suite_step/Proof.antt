@@ -4,7 +4,7 @@ use Rattle.capi.specs.Number.{code, orNone}
 use Rattle.suites.specs.GetChannelCipherSuites.{saidSuite}
 use Rattle.suites.specs.declared.get_channel_cipher_suites.Step.{Step}
 use mir.Val.{boolByte}
-use mathlib.Core.Path.{refl, _∙_, ap}
+use mathlib.Core.Path.{_∙_, ap}
 use Rattle.capi.proofs.table.ghj_suite_step.Statement.{statement}
 use Rattle.capi.proofs.table.ghj_suite_step.Tie as tie
 

@@ -1,8 +1,8 @@
 use borrow.Author.Needs.{needs}
 use Rattle.base.specs.declared.refusal.Refusal.the-variants.{NoForm}
 use Rattle.base.proofs.written.Laws.{refusing}
-use Rattle.capi.proofs.access_layout.Statement.{statement}
-use Rattle.capi.proofs.access_layout.Tie as tie
+use Rattle.layouts.proofs.access_layout.Statement.{statement}
+use Rattle.layouts.proofs.access_layout.Tie as tie
 
 returns : tie.Need-returns
 returns c = refusing NoForm (c .before .before .before .before .args .out .now) (rw (← c .before .before .field .ensures, c .enum-told .given .1))
