@@ -32,6 +32,15 @@ impl Random {
         (0..length).map(|_| self.byte()).collect()
     }
 
+    /// Most of them zeros, so that more than one field is wrong at once.
+    pub fn sparse(&mut self, length: usize) -> Vec<u8> {
+        let byte = |_| match self.below(4) {
+            0 => self.byte(),
+            _ => 0,
+        };
+        (0..length).map(byte).collect()
+    }
+
     pub fn array<const N: usize>(&mut self) -> [u8; N] {
         std::array::from_fn(|_| self.byte())
     }

@@ -134,6 +134,7 @@ impl Reader {
             damaged(&usual, random).iter().for_each(|data| ask(data));
             let length = random.below(LONGEST + 1);
             ask(&random.bytes(length));
+            ask(&random.sparse(length));
         }
         held
     }
