@@ -123,8 +123,8 @@ uint64_t ghj_suite_algorithms(uint8_t suite, uint8_t *out, size_t out_length);
 /* The suite of three algorithms, or GHJ_NONE. */
 uint64_t ghj_suite_of(uint8_t authentication, uint8_t integrity, uint8_t confidentiality);
 
-/* One step of the reading of a list: the suite's number, or GHJ_NONE. Moves *position and sets *failed to 0 or 1; any other
- * number than 0 counts as failed. A reading starts with both 0. */
+/* One step of the reading of a list: the suite's number, or GHJ_NONE. Moves *position and sets *failed to 0 or 1; any
+ * other number than 0 counts as failed. A reading starts with both 0. */
 uint64_t ghj_suite_step(const uint8_t *list, size_t list_length, size_t *position, uint8_t *failed);
 
 /* The numbers of the suites of a whole list, a byte each, up to the first step of the reading that gives none. */

@@ -167,7 +167,8 @@ static void types(void) {
     static const uint8_t weakest_first[] = {0, 4, 1, 2};
     for (unsigned i = 0; i < 4; i++)
         for (unsigned j = 0; j < 4; j++)
-            check("strength", ghj_compare_strength(weakest_first[i], weakest_first[j]) == (i < j ? 0u : i == j ? 1u : 2u));
+            check("strength",
+                  ghj_compare_strength(weakest_first[i], weakest_first[j]) == (i < j ? 0u : i == j ? 1u : 2u));
     refuses("strength", ghj_compare_strength(3, 5), GHJ_INVALID_AUTH_TYPE, 3);
     refuses("strength", ghj_compare_strength(0, 5), GHJ_INVALID_AUTH_TYPE, 5);
 }

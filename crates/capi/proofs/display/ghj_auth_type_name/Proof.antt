@@ -1,10 +1,10 @@
 use borrow.Author.Needs.{needs}
-use Rattle.capi.proofs.Laws.{coding, refused-coded}
-use Rattle.auth.specs.Auth.{saidAuthType}
-use Rattle.base.specs.declared.refusal.Refusal.the-variants.{InvalidAuthType}
-use Rattle.base.proofs.Named.{told}
 use mathlib.Core.Option.{none, some}
 use mathlib.Core.Path.{refl}
+use Rattle.base.specs.declared.refusal.Refusal.the-variants.{InvalidAuthType}
+use Rattle.base.proofs.Named.{told}
+use Rattle.auth.specs.Auth.{saidAuthType}
+use Rattle.capi.proofs.Laws.{coding, refused-coded}
 use Rattle.capi.proofs.display.ghj_auth_type_name.Statement.{statement}
 use Rattle.capi.proofs.display.ghj_auth_type_name.Tie as tie
 

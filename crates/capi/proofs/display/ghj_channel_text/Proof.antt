@@ -1,8 +1,8 @@
 use borrow.Author.Needs.{needs}
-use Rattle.capi.proofs.Laws.{coding, refused-coded}
+use mathlib.Core.Path.{sym, _∙_, ap}
 use Rattle.base.specs.Connection.{saidChannel}
 use Rattle.base.specs.declared.refusal.Refusal.the-variants.{NoChannel}
-use mathlib.Core.Path.{sym, _∙_, ap}
+use Rattle.capi.proofs.Laws.{coding, refused-coded}
 use Rattle.capi.proofs.display.ghj_channel_text.Statement.{statement}
 use Rattle.capi.proofs.display.ghj_channel_text.Tie as tie
 

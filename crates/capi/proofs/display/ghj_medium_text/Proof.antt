@@ -1,7 +1,7 @@
 use borrow.Author.Needs.{needs}
-use Rattle.capi.proofs.Laws.{coding-made}
-use Rattle.info.specs.GetChannelInfo.{mediumText}
 use Rattle.base.specs.Outcome.{accepted}
+use Rattle.info.specs.GetChannelInfo.{mediumText}
+use Rattle.capi.proofs.Laws.{coding-made}
 use Rattle.capi.proofs.display.ghj_medium_text.Statement.{statement}
 use Rattle.capi.proofs.display.ghj_medium_text.Tie as tie
 

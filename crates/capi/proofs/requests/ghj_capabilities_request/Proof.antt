@@ -1,12 +1,12 @@
 use borrow.Author.Needs.{needs}
-use Rattle.capi.proofs.Laws.{coding-made, refused-coded}
-use Rattle.auth.specs.GetChannelAuthenticationCapabilities.{commandBytes}
-use Rattle.base.specs.Connection.{saidChannel}
-use Rattle.auth.specs.Auth.{saidPrivilege}
-use Rattle.base.specs.declared.refusal.Refusal.the-variants.{InvalidPrivilegeLevel, NoChannel}
-use Rattle.base.proofs.Named.{told}
 use mathlib.Core.Option.{none, some}
 use mathlib.Core.Path.{refl, sym, _∙_, ap}
+use Rattle.base.specs.Connection.{saidChannel}
+use Rattle.base.specs.declared.refusal.Refusal.the-variants.{InvalidPrivilegeLevel, NoChannel}
+use Rattle.base.proofs.Named.{told}
+use Rattle.auth.specs.Auth.{saidPrivilege}
+use Rattle.auth.specs.GetChannelAuthenticationCapabilities.{commandBytes}
+use Rattle.capi.proofs.Laws.{coding-made, refused-coded}
 use Rattle.capi.proofs.requests.ghj_capabilities_request.Statement.{statement}
 use Rattle.capi.proofs.requests.ghj_capabilities_request.Tie as tie
 

@@ -1,10 +1,10 @@
 use borrow.Author.Needs.{needs}
-use Rattle.capi.proofs.Laws.{coding, fell, gave, refused-coded}
-use Rattle.auth.specs.Auth.{saidAuthType}
-use Rattle.base.specs.declared.refusal.Refusal.the-variants.{InvalidAuthType}
-use Rattle.base.proofs.Named.{told}
 use mathlib.Core.Option.{none, some}
 use mathlib.Core.Path.{refl}
+use Rattle.base.specs.declared.refusal.Refusal.the-variants.{InvalidAuthType}
+use Rattle.base.proofs.Named.{told}
+use Rattle.auth.specs.Auth.{saidAuthType}
+use Rattle.capi.proofs.Laws.{coding, fell, gave, refused-coded}
 use Rattle.capi.proofs.requests.ghj_challenge_request.Statement.{statement}
 use Rattle.capi.proofs.requests.ghj_challenge_request.Tie as tie
 

@@ -1,7 +1,7 @@
 use borrow.Author.Needs.{needs}
-use Rattle.capi.proofs.Laws.{coding, refused-coded}
-use Rattle.info.specs.GetChannelInfo.{saidCommand}
 use mathlib.Core.Path.{sym, _∙_, ap}
+use Rattle.info.specs.GetChannelInfo.{saidCommand}
+use Rattle.capi.proofs.Laws.{coding, refused-coded}
 use Rattle.capi.proofs.requests.ghj_info_request.Statement.{statement}
 use Rattle.capi.proofs.requests.ghj_info_request.Tie as tie
 

@@ -1,8 +1,8 @@
 use borrow.Author.Needs.{needs}
-use Rattle.auth.proofs.Laws.{high-level, low-level}
-use Rattle.base.specs.Outcome.{accepted}
 use mathlib.Core.Path.{_∙_, ap}
 use native.Mathlib.Omega.{arith}
+use Rattle.base.specs.Outcome.{accepted}
+use Rattle.auth.proofs.Laws.{high-level, low-level}
 use Rattle.capi.proofs.requests.whole_privilege.Statement.{statement}
 use Rattle.capi.proofs.requests.whole_privilege.Tie as tie
 

@@ -1,9 +1,9 @@
 use borrow.Author.Needs.{needs}
+use mathlib.Core.Path.{sym, _∙_, ap}
 use Rattle.base.specs.Outcome.{accepted}
+use Rattle.auth.specs.Auth.{authTypeValue, saidAuthType}
 use Rattle.auth.specs.GetChannelAuthenticationCapabilities.{bestAuth}
 use Rattle.capi.specs.Number.{code, orNone}
-use Rattle.auth.specs.Auth.{authTypeValue, saidAuthType}
-use mathlib.Core.Path.{sym, _∙_, ap}
 use Rattle.capi.proofs.strength.ghj_best_auth.Statement.{statement}
 use Rattle.capi.proofs.strength.ghj_best_auth.Tie as tie
 

@@ -1,8 +1,8 @@
 use borrow.Author.Needs.{needs}
-use Rattle.auth.specs.Auth.{saidAuthType}
-use Rattle.base.proofs.Named.{told}
 use mathlib.Core.Option.{none, some}
 use mathlib.Core.Path.{refl}
+use Rattle.base.proofs.Named.{told}
+use Rattle.auth.specs.Auth.{saidAuthType}
 use Rattle.capi.proofs.strength.ghj_compare_strength.Statement.{statement}
 use Rattle.capi.proofs.strength.ghj_compare_strength.Tie as tie
 

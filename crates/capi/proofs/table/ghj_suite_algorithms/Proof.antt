@@ -1,9 +1,9 @@
 use borrow.Author.Needs.{needs}
-use Rattle.capi.proofs.Laws.{any-none, any-some, coding}
-use Rattle.suites.specs.GetChannelCipherSuites.{saidRow}
-use Rattle.base.proofs.Named.{told}
 use mathlib.Core.Option.{none, some}
 use mathlib.Core.Path.{refl}
+use Rattle.base.proofs.Named.{told}
+use Rattle.suites.specs.GetChannelCipherSuites.{saidRow}
+use Rattle.capi.proofs.Laws.{any-none, any-some, coding}
 use Rattle.capi.proofs.table.ghj_suite_algorithms.Statement.{statement}
 use Rattle.capi.proofs.table.ghj_suite_algorithms.Tie as tie
 

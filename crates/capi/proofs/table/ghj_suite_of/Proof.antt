@@ -1,7 +1,7 @@
 use borrow.Author.Needs.{needs}
-use Rattle.capi.specs.Table.{suiteNumber}
-use Rattle.capi.specs.Number.{code, orNone}
 use mathlib.Core.Path.{_∙_, ap}
+use Rattle.capi.specs.Number.{code, orNone}
+use Rattle.capi.specs.Table.{suiteNumber}
 use Rattle.capi.proofs.table.ghj_suite_of.Statement.{statement}
 use Rattle.capi.proofs.table.ghj_suite_of.Tie as tie
 

@@ -1,10 +1,10 @@
 use borrow.Author.Needs.{needs}
-use Rattle.capi.specs.Table.{suiteNumber}
-use Rattle.capi.specs.Number.{code, orNone}
+use mathlib.Core.Path.{_∙_, ap}
+use mir.Val.{boolByte}
 use Rattle.suites.specs.GetChannelCipherSuites.{saidSuite}
 use Rattle.suites.specs.declared.get_channel_cipher_suites.Step.{Step}
-use mir.Val.{boolByte}
-use mathlib.Core.Path.{_∙_, ap}
+use Rattle.capi.specs.Number.{code, orNone}
+use Rattle.capi.specs.Table.{suiteNumber}
 use Rattle.capi.proofs.table.ghj_suite_step.Statement.{statement}
 use Rattle.capi.proofs.table.ghj_suite_step.Tie as tie
 
