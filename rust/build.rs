@@ -22,12 +22,17 @@ fn find() -> Result<PathBuf, String> {
     let here = env::var_os("CARGO_MANIFEST_DIR").ok_or("CARGO_MANIFEST_DIR is not set")?;
     let root = Path::new(&here).join("..");
     match env::var_os(VARIABLE).filter(|value| !value.is_empty()) {
-        Some(archive) => Ok(root.join(archive)),
+        Some(archive) => {
+            let archive = root.join(archive);
+            println!("cargo::rerun-if-changed={}", archive.display());
+            Ok(archive)
+        }
         None => build(&root),
     }
 }
 
-/// By the repository's own script; on x86-64 that is `rt staticlib capi`.
+/// By the repository's own script; on x86-64 that is `rt staticlib capi`. Again when the sources change, not when the archive
+/// does: it is newer than the start of its own building.
 fn build(root: &Path) -> Result<PathBuf, String> {
     let script = root.join("tests/native");
     println!("cargo::rerun-if-changed={}", root.join("crates").display());
@@ -58,7 +63,6 @@ fn link(archive: &Path) -> Result<(), String> {
     let (Some(name), Some(folder)) = (name, archive.parent()) else {
         return Err(format!("not named as lib*.a: {}", archive.display()));
     };
-    println!("cargo::rerun-if-changed={}", archive.display());
     println!("cargo::rustc-link-search=native={}", folder.display());
     println!("cargo::rustc-link-lib=static={name}");
     Ok(())

@@ -32,6 +32,15 @@ impl Random {
         (0..length).map(|_| self.byte()).collect()
     }
 
+    /// Most of them zeros, so that more than one field is wrong at once.
+    pub fn sparse(&mut self, length: usize) -> Vec<u8> {
+        let byte = |_| match self.below(4) {
+            0 => self.byte(),
+            _ => 0,
+        };
+        (0..length).map(byte).collect()
+    }
+
     pub fn array<const N: usize>(&mut self) -> [u8; N] {
         std::array::from_fn(|_| self.byte())
     }
@@ -59,15 +68,24 @@ pub fn each_length(longest: usize, random: &mut Random, mut ask: impl FnMut(&[u8
     }
 }
 
-/// Every value of each byte of a message.
+/// Cut at every place.
+pub fn each_prefix(data: &[u8], mut ask: impl FnMut(&[u8])) {
+    for length in 0..=data.len() {
+        ask(&data[..length]);
+    }
+}
+
+/// Every value of each byte of a message, on each of its lengths.
 pub fn each_byte(message: &[u8], mut ask: impl FnMut(&[u8])) {
-    let mut data = message.to_vec();
-    for place in 0..data.len() {
-        for value in 0..=u8::MAX {
-            data[place] = value;
-            ask(&data);
+    for length in 1..=message.len() {
+        let mut data = message[..length].to_vec();
+        for place in 0..length {
+            for value in 0..=u8::MAX {
+                data[place] = value;
+                ask(&data);
+            }
+            data[place] = message[place];
         }
-        data[place] = message[place];
     }
 }
 

@@ -1,7 +1,7 @@
 //! The readers of the six responses and of a list. A record is laid out from the fields that the crate parsed.
 
 use super::held::{refused, refused_with, Expected, Held};
-use super::inputs::{damaged, each_byte, each_length, each_short, Random};
+use super::inputs::{damaged, each_byte, each_length, each_prefix, each_short, Random};
 use ghjalvestru::sys::{self, CAPACITY, PARTS};
 use oracle_core::app::auth::{
     ActivateSession, AuthError, ChannelCipherSuites, GetChannelAuthenticationCapabilities,
@@ -125,30 +125,27 @@ impl Reader {
         let mut ask = |data: &[u8]| held.writes(data, &(self.expected)(data), self.call);
         each_short(&mut ask);
         each_length(self.longest, random, &mut ask);
-        // Whole messages one behind the other, cut at every length.
-        let mut row = Vec::new();
-        while row.len() < self.longest {
-            row.extend((self.usual)(random));
-        }
-        for length in 0..=self.longest {
-            ask(&row[..length]);
-        }
-        for _ in 0..8 {
-            let mut usual = (self.usual)(random);
-            usual.truncate(LONGEST);
-            each_byte(&usual, &mut ask);
-        }
+        each_prefix(&self.joined(random)[..self.longest], &mut ask);
+        each_byte(&self.joined(random)[..LONGEST], &mut ask);
         for _ in 0..rounds {
             let usual = (self.usual)(random);
             assert!((self.expected)(&usual).is_ok(), "{usual:02X?}");
             ask(&usual);
-            for data in damaged(&usual, random) {
-                ask(&data);
-            }
+            damaged(&usual, random).iter().for_each(|data| ask(data));
             let length = random.below(LONGEST + 1);
             ask(&random.bytes(length));
+            ask(&random.sparse(length));
         }
         held
+    }
+
+    /// Messages one behind the other, as long as the longest input at least.
+    fn joined(&self, random: &mut Random) -> Vec<u8> {
+        let mut all = Vec::new();
+        while all.len() < self.longest {
+            all.extend((self.usual)(random));
+        }
+        all
     }
 }
 
