@@ -1,3 +1,4 @@
 pub mod Laws
 pub mod Said
+pub mod Session
 pub mod Unique

@@ -1,3 +1,4 @@
 pub mod Algorithms
 pub mod Auth
 pub mod GetChannelAuthenticationCapabilities
+pub mod Session

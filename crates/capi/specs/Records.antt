@@ -7,7 +7,7 @@ use Rattle.channel.specs.GetChannelAccess.{accessOf}
 use Rattle.info.specs.GetChannelInfo.{infoOf}
 use Rattle.layouts.specs.Layouts.{accessLayout, capabilitiesLayout, infoLayout}
 use Rattle.session.specs.ActivateSession.{beginBytes, beginOf}
-use Rattle.session.specs.GetSessionChallenge.{challengeBytes, challengeOf}
+use Rattle.challenge.specs.GetSessionChallenge.{challengeBytes, challengeOf}
 use Rattle.suites.specs.GetChannelCipherSuites.{suitesBytes, suitesOf}
 
 -- temporary session number, four bytes, low first; the challenge

@@ -14,7 +14,7 @@ use Rattle.channel.specs.declared.get_channel_access.ChannelAccessType.{Channel
 use Rattle.channel.specs.declared.get_channel_access.ChannelAccessType.the-variants.{NonVolatile, Volatile}
 use Rattle.info.specs.GetChannelInfo as info
 use Rattle.session.specs.ActivateSession as activation
-use Rattle.session.specs.GetSessionChallenge as challenge
+use Rattle.challenge.specs.GetSessionChallenge as challenge
 use Rattle.suites.specs.GetChannelCipherSuites as suites
 
 -- from 0 up: which settings

@@ -3,7 +3,7 @@ ghost use Rattle.base.specs.Outcome.{accepted};
 ghost use Rattle.capi.specs.Display.{channelName, typeName};
 ghost use Rattle.capi.specs.Number.{Codes};
 ghost use Rattle.channel.specs.GetChannelAccess.{limitOf, limitText, modeOf, modeText};
-ghost use Rattle.info.specs.GetChannelInfo.{mediumOf, mediumText, protocolOf, protocolText, sessionOf, sessionText};
+ghost use Rattle.media.specs.Media.{mediumOf, mediumText, protocolOf, protocolText, sessionOf, sessionText};
 use crate::code;
 use crate::refused;
 use auth::AuthType;
@@ -13,9 +13,9 @@ use base::connection::ChannelAnswer;
 use base::refusal::Refusal;
 use channel::get_channel_access::ChannelAccessMode;
 use channel::get_channel_access::ChannelPrivilegeLevel;
-use info::get_channel_info::ChannelMediumType;
-use info::get_channel_info::ChannelProtocolType;
-use info::get_channel_info::ChannelSessionSupport;
+use media::get_channel_info::ChannelMediumType;
+use media::get_channel_info::ChannelProtocolType;
+use media::get_channel_info::ChannelSessionSupport;
 
 #[no_mangle]
 pub extern "C" fn ghj_channel_text(channel: u8, out: &mut [u8]) -> u64

@@ -16,11 +16,11 @@ use base::connection::Channel;
 use base::connection::ChannelAnswer;
 use base::refusal::Refusal;
 use base::verdict::Verdict;
+use challenge::get_session_challenge::GetSessionChallenge;
 use channel::get_channel_access::GetChannelAccess;
 use info::get_channel_info::CommandAnswer as InfoCommand;
 use info::get_channel_info::GetChannelInfo;
 use session::activate_session::ActivateSession;
-use session::get_session_challenge::GetSessionChallenge;
 use suites::get_channel_cipher_suites::CommandAnswer as SuitesCommand;
 use suites::get_channel_cipher_suites::GetChannelCipherSuites;
 

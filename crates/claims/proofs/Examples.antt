@@ -19,7 +19,7 @@ use Rattle.claims.proofs.Collecting.{P11, P12-first, P12-then, P13, cal
 use Rattle.collector.specs.Collector.{complete, fresh, listOf, missing, standingOf, taking}
 use Rattle.collector.specs.Histories.{after}
 use Rattle.session.specs.ActivateSession.{beginOf}
-use Rattle.session.specs.GetSessionChallenge.{challengeOf}
+use Rattle.challenge.specs.GetSessionChallenge.{challengeOf}
 use Rattle.suites.specs.GetChannelCipherSuites as Suites
 use Rattle.suites.specs.declared.get_channel_cipher_suites.SuiteAnswer.the-variants.{Nothing, Suite}
 

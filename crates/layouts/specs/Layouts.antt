@@ -9,7 +9,7 @@ use Rattle.base.specs.Little.{littleBytes}
 use Rattle.base.specs.Outcome.{Outcome, accepted, _>>=_}
 use Rattle.channel.specs.GetChannelAccess.{limitField, modeField}
 use Rattle.channel.specs.declared.get_channel_access.ChannelAccess.{ChannelAccess}
-use Rattle.info.specs.GetChannelInfo.{mediumField, protocolField, sessionField}
+use Rattle.media.specs.Media.{mediumField, protocolField, sessionField}
 use Rattle.info.specs.declared.get_channel_info.ChannelInfo.{ChannelInfo}
 
 -- mode; alerting, per-message and user-level authentication DISABLED, 0 or 1 each; limit

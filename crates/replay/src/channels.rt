@@ -18,12 +18,12 @@ use channel::get_channel_access::CommandAnswer;
 use channel::get_channel_access::GetChannelAccess;
 use check::same;
 use info::get_channel_info::ChannelInfo;
-use info::get_channel_info::ChannelMediumType;
-use info::get_channel_info::ChannelProtocolType;
-use info::get_channel_info::ChannelSessionSupport;
 use info::get_channel_info::CommandAnswer as InfoCommand;
 use info::get_channel_info::GetChannelInfo;
 use info::get_channel_info::InfoAnswer;
+use media::get_channel_info::ChannelMediumType;
+use media::get_channel_info::ChannelProtocolType;
+use media::get_channel_info::ChannelSessionSupport;
 
 pub(crate) fn channel_text(channel: Channel, at: usize, out: &mut [u8]) -> usize {
     let mut words = [0u8; 32];

@@ -18,12 +18,12 @@ use base::little::number4;
 use base::verdict::Verdict;
 use base::written::Written;
 use base::written::place;
+use challenge::get_session_challenge::GetSessionChallenge;
+use challenge::get_session_challenge::SessionChallenge;
 use check::same;
 use session::activate_session::ActivateSession;
 use session::activate_session::BeginAnswer;
 use session::activate_session::BeginSessionInfo;
-use session::get_session_challenge::GetSessionChallenge;
-use session::get_session_challenge::SessionChallenge;
 
 fn kind_name(kind: AuthType, at: usize, out: &mut [u8]) -> usize {
     let mut words = [0u8; 8];

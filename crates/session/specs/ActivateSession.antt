@@ -9,7 +9,7 @@ use Rattle.base.specs.Named.{named, required}
 use Rattle.base.specs.Outcome.{Outcome, accepted, refused, _>>=_}
 use Rattle.base.specs.Refusal.{refusal}
 use Rattle.auth.specs.Auth.{authTypeOf, authTypeValue, privileges, privilegeOf, privilegeValue}
-use Rattle.session.specs.Session.{nonZero}
+use Rattle.auth.specs.Session.{nonZero}
 use Rattle.auth.specs.declared.AuthType.{AuthType}
 use Rattle.auth.specs.declared.AuthType.the-variants.{None}
 use Rattle.auth.specs.declared.PrivilegeLevel.{PrivilegeLevel}

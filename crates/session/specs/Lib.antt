@@ -1,3 +1,1 @@
 pub mod ActivateSession
-pub mod GetSessionChallenge
-pub mod Session

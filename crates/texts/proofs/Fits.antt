@@ -18,13 +18,13 @@ use Rattle.channel.specs.declared.get_channel_access.ChannelAccessMode.{Channel
 use Rattle.channel.specs.declared.get_channel_access.ChannelAccessMode.the-variants as Mode
 use Rattle.channel.specs.declared.get_channel_access.ChannelPrivilegeLevel.{ChannelPrivilegeLevel}
 use Rattle.channel.specs.declared.get_channel_access.ChannelPrivilegeLevel.the-variants as Level
-use Rattle.info.specs.GetChannelInfo.{mediumText, protocolText, sessionText}
-use Rattle.info.specs.declared.get_channel_info.ChannelMediumType.{ChannelMediumType}
-use Rattle.info.specs.declared.get_channel_info.ChannelMediumType.the-variants as Medium
-use Rattle.info.specs.declared.get_channel_info.ChannelProtocolType.{ChannelProtocolType}
-use Rattle.info.specs.declared.get_channel_info.ChannelProtocolType.the-variants as Protocol
-use Rattle.info.specs.declared.get_channel_info.ChannelSessionSupport.{ChannelSessionSupport}
-use Rattle.info.specs.declared.get_channel_info.ChannelSessionSupport.the-variants as Session
+use Rattle.media.specs.Media.{mediumText, protocolText, sessionText}
+use Rattle.media.specs.declared.get_channel_info.ChannelMediumType.{ChannelMediumType}
+use Rattle.media.specs.declared.get_channel_info.ChannelMediumType.the-variants as Medium
+use Rattle.media.specs.declared.get_channel_info.ChannelProtocolType.{ChannelProtocolType}
+use Rattle.media.specs.declared.get_channel_info.ChannelProtocolType.the-variants as Protocol
+use Rattle.media.specs.declared.get_channel_info.ChannelSessionSupport.{ChannelSessionSupport}
+use Rattle.media.specs.declared.get_channel_info.ChannelSessionSupport.the-variants as Session
 
 pub channel-fits : (c : Channel) → length (channelText c) ≤ 15
 channel-fits Primary = omega arith

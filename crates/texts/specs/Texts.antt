@@ -12,7 +12,7 @@ use Rattle.base.specs.Connection.{channelText}
 use Rattle.base.specs.Text.{ascii, hex2}
 use Rattle.channel.specs.GetChannelAccess.{limitText, modeText}
 use Rattle.channel.specs.declared.get_channel_access.ChannelAccess.{ChannelAccess}
-use Rattle.info.specs.GetChannelInfo.{mediumText, protocolText, sessionText}
+use Rattle.media.specs.Media.{mediumText, protocolText, sessionText}
 use Rattle.info.specs.declared.get_channel_info.ChannelInfo.{ChannelInfo}
 use Rattle.lines.specs.Lines.{decimal, space}
 

@@ -11,7 +11,7 @@ ghost use Rattle.base.specs.Outcome.{accepted};
 ghost use Rattle.base.specs.Text.{ascii, hex2};
 ghost use Rattle.base.specs.Written.{Writes};
 ghost use Rattle.channel.specs.GetChannelAccess.{limitText, modeText};
-ghost use Rattle.info.specs.GetChannelInfo.{mediumText, protocolText, sessionText};
+ghost use Rattle.media.specs.Media.{mediumText, protocolText, sessionText};
 ghost use Rattle.lines.specs.Lines.{decimal, space};
 ghost use Rattle.texts.specs.Appends.{Adds, Appends, wrote};
 ghost use Rattle.texts.specs.Texts.{accessText, authText, blockText, chosen, infoText, missingText, refusedText, stateText, suitesText};
@@ -26,11 +26,11 @@ use channel::get_channel_access::ChannelAccessMode;
 use channel::get_channel_access::ChannelPrivilegeLevel;
 use info::get_channel_info::AuxChannelInfo;
 use info::get_channel_info::ChannelInfo;
-use info::get_channel_info::ChannelMediumType;
-use info::get_channel_info::ChannelProtocolType;
-use info::get_channel_info::ChannelSessionSupport;
 use lines::decimal;
 use lines::hex;
+use media::get_channel_info::ChannelMediumType;
+use media::get_channel_info::ChannelProtocolType;
+use media::get_channel_info::ChannelSessionSupport;
 
 // More than any text but a list of suites takes.
 const ROOM: usize = 160;

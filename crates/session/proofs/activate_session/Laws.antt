@@ -28,7 +28,7 @@ use Rattle.auth.specs.declared.PrivilegeLevel.the-variants.{Callback, User, Ope
 use Rattle.session.specs.declared.activate_session.ActivateSession.{ActivateSession}
 use Rattle.session.specs.declared.activate_session.BeginSessionInfo.{BeginSessionInfo}
 use Rattle.auth.proofs.Laws.{auth-type-iff, nibble-iff}
-use Rattle.session.proofs.get_session_challenge.Laws.{sixteen, non-zero-only}
+use Rattle.auth.proofs.Session.{sixteen, non-zero-only}
 
 pub request-read : (s after : List ℕ) (kind : AuthType) (level : PrivilegeLevel) (first : ℕ) {r : Written} → length s ≡ 22 → authTypeOf (byte 0 s) ≡ some kind → named privileges (byte 1 s) ≡ some level
     → Writes (accepted (take 16 (drop 2 s))) r (replicate 16 0) after → first ≡ little (byte 18 s ∷ byte 19 s ∷ byte 20 s ∷ byte 21 s ∷ []) → commandOf s ≡ accepted (command kind level after first)

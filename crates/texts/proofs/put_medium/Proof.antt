@@ -1,6 +1,6 @@
 use borrow.Author.Needs.{needs}
 use native.Mathlib.Omega.{arith}
-use Rattle.info.specs.GetChannelInfo.{mediumText}
+use Rattle.media.specs.Media.{mediumText}
 use Rattle.texts.proofs.Fits.{medium-fits}
 use Rattle.texts.proofs.Laws.{added, wrote-most}
 use Rattle.texts.proofs.put_medium.Statement.{statement}

@@ -1,6 +1,6 @@
 use borrow.Author.Needs.{needs}
 use native.Mathlib.Omega.{arith}
-use Rattle.info.specs.GetChannelInfo.{protocolText}
+use Rattle.media.specs.Media.{protocolText}
 use Rattle.texts.proofs.Fits.{protocol-fits}
 use Rattle.texts.proofs.Laws.{added, wrote-most}
 use Rattle.texts.proofs.put_protocol.Statement.{statement}

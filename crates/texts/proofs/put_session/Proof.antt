@@ -1,6 +1,6 @@
 use borrow.Author.Needs.{needs}
 use native.Mathlib.Omega.{arith}
-use Rattle.info.specs.GetChannelInfo.{sessionText}
+use Rattle.media.specs.Media.{sessionText}
 use Rattle.texts.proofs.Fits.{session-fits}
 use Rattle.texts.proofs.Laws.{added, wrote-most}
 use Rattle.texts.proofs.put_session.Statement.{statement}

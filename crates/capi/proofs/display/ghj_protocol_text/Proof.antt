@@ -1,6 +1,6 @@
 use borrow.Author.Needs.{needs}
 use Rattle.base.specs.Outcome.{accepted}
-use Rattle.info.specs.GetChannelInfo.{protocolText}
+use Rattle.media.specs.Media.{protocolText}
 use Rattle.capi.proofs.Laws.{coding-made}
 use Rattle.capi.proofs.display.ghj_protocol_text.Statement.{statement}
 use Rattle.capi.proofs.display.ghj_protocol_text.Tie as tie

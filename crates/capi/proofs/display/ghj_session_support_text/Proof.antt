@@ -1,6 +1,6 @@
 use borrow.Author.Needs.{needs}
 use Rattle.base.specs.Outcome.{accepted}
-use Rattle.info.specs.GetChannelInfo.{sessionText}
+use Rattle.media.specs.Media.{sessionText}
 use Rattle.capi.proofs.Laws.{coding-made}
 use Rattle.capi.proofs.display.ghj_session_support_text.Statement.{statement}
 use Rattle.capi.proofs.display.ghj_session_support_text.Tie as tie

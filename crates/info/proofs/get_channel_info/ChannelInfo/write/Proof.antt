@@ -5,7 +5,7 @@ use Rattle.base.specs.declared.refusal.Refusal.the-variants.{NoForm}
 use mathlib.Core.Path.{sym, _∙_, ap}
 use Rattle.base.specs.Field.{saidField}
 use Rattle.base.proofs.written.Laws.{refusing}
-use Rattle.info.proofs.get_channel_info.Laws.{session-back}
+use Rattle.media.proofs.get_channel_info.Laws.{session-back}
 use Rattle.info.proofs.get_channel_info.ChannelInfo.write.Statement.{statement}
 use Rattle.info.proofs.get_channel_info.ChannelInfo.write.Tie as tie
 
