@@ -30,7 +30,7 @@ use Rattle.lines.specs.Lines.{pairsOf}
 use Rattle.lines.proofs.Laws.{bytes-at, decimal-fits}
 use Rattle.suites.specs.GetChannelCipherSuites.{numbersOf}
 use Rattle.texts.specs.Appends.{wrote}
-use Rattle.texts.specs.Texts.{blockText, chosen, missingText, refusedText, suitesText}
+use Rattle.texts.specs.Texts.{blockText, chosen, missingText, suitesText}
 use Rattle.texts.proofs.Laws.{wrote-all}
 use Rattle.dump.specs.Dump.{Answers, Said, Says, answering, badLine, begins, ending, heard, hearing, keeping, listed, longest, reading, refusing, saying, wordOf}
 use Rattle.dump.specs.declared.Answered.{Answered}
