@@ -18,10 +18,12 @@ use Rattle.auth.specs.declared.PrivilegeLevel.the-variants.{Callback, Us
 use Rattle.auth.specs.declared.PrivilegeAnswer.{PrivilegeAnswer}
 use Rattle.auth.specs.declared.PrivilegeAnswer.the-variants as Privilege
 
+-- each case's outcome; "answers none, which counts as accepted"
 abbrev pub saidAuthType : AuthTypeAnswer → Outcome (Option AuthType)
 saidAuthType (Answer.AuthType kind) = accepted (some kind)
 saidAuthType Answer.Nothing = accepted none
 
+-- each case's outcome; "answers none, which counts as accepted"
 abbrev pub saidPrivilege : PrivilegeAnswer → Outcome (Option PrivilegeLevel)
 saidPrivilege (Privilege.Level level) = accepted (some level)
 saidPrivilege Privilege.Nothing = accepted none
@@ -34,6 +36,7 @@ authTypes = some None ∷ some MD2 ∷ some MD5 ∷ none ∷ some Key ∷ []
 abbrev pub authTypeOf : ℕ → Option AuthType
 authTypeOf n = named authTypes n
 
+-- "AuthType 0, 1, 2, 4"
 abbrev pub authTypeValue : AuthType → ℕ
 authTypeValue None = 0
 authTypeValue MD2 = 1
@@ -54,6 +57,7 @@ rank Key = 1
 rank MD2 = 2
 rank MD5 = 3
 
+-- "strength order": by ranks
 abbrev pub strength : AuthType → AuthType → Ordering
 strength a b = if rank a <? rank b then Less else if rank b <? rank a then Greater else Equal
 
@@ -65,6 +69,7 @@ privileges = none ∷ some Callback ∷ some User ∷ some Operator ∷ some Adm
 abbrev pub privilegeOf : ℕ → Option PrivilegeLevel
 privilegeOf n = named privileges (bits 0 4 n)
 
+-- "PrivilegeLevel 1 to 5"
 abbrev pub privilegeValue : PrivilegeLevel → ℕ
 privilegeValue Callback = 1
 privilegeValue User = 2

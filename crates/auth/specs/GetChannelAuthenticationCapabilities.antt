@@ -20,12 +20,14 @@ use Rattle.auth.specs.declared.get_channel_authentication_capabilities.C
 use Rattle.auth.specs.declared.get_channel_authentication_capabilities.CommandAnswer.the-variants.{Command, Refused}
 use Rattle.auth.specs.declared.get_channel_authentication_capabilities.GetChannelAuthenticationCapabilities.{GetChannelAuthenticationCapabilities}
 
+-- each case's outcome
 abbrev pub saidCommand : CommandAnswer → Outcome GetChannelAuthenticationCapabilities
 saidCommand (Command command) = accepted command
 saidCommand (Refused r) = refusal r
 
 -- The request: byte 0 is the channel, above it bit 7, which asks for the extended answer; byte 1 is the level.
 
+-- a command holds its channel and its level
 abbrev pub command : Channel → PrivilegeLevel → GetChannelAuthenticationCapabilities
 command channel level = record { «channel_number» = channel; «privilege_level» = level }
 
@@ -35,6 +37,7 @@ commandFor number level = do
   channel ← channelOf number
   accepted (command channel level)
 
+-- "request 38h, 2 bytes"; 9 for "a command whose channel no number makes"
 abbrev pub commandBytes : GetChannelAuthenticationCapabilities → Outcome (List ℕ)
 commandBytes c = do
   channel ← channelField (c .«channel_number»)

@@ -19,10 +19,12 @@ use Rattle.base.specs.declared.connection.LogicalUnit.the-variants.{Zero
 use Rattle.base.specs.declared.connection.UnitAnswer.{UnitAnswer}
 use Rattle.base.specs.declared.connection.UnitAnswer.the-variants.{Unit, Nothing}
 
+-- each case's outcome: 6 NoChannel
 abbrev pub saidNumber : NumberAnswer → Outcome ChannelNumber
 saidNumber (Number.Number number) = accepted number
 saidNumber Number.NoChannel = refused 6 []
 
+-- each case's outcome: 6 NoChannel
 abbrev pub saidChannel : ChannelAnswer → Outcome Channel
 saidChannel (Answer.Channel channel) = accepted channel
 saidChannel Answer.NoChannel = refused 6 []
@@ -31,6 +33,7 @@ saidChannel Answer.NoChannel = refused 6 []
 abbrev pub channelNumberOf : ℕ → Outcome ChannelNumber
 channelNumberOf n = if n from 1 to 0xB then accepted (record { 0 = n }) else refused 6 []
 
+-- "0 Primary, 1 to 0xB numbered, 0xE Current, 0xF System"; any other number 6
 abbrev pub channelOf : ℕ → Outcome Channel
 channelOf n =
     if n =? 0 then accepted Primary else
@@ -53,12 +56,14 @@ channelField (Numbered number) = within 1 0xB (number .0)
 channelField Current = accepted 0xE
 channelField System = accepted 0xF
 
+-- the Rust's Display; "a numbered channel that no number makes shows .. the number it holds"
 abbrev pub channelText : Channel → List ℕ
 channelText Primary = ascii "Primary channel"
 channelText (Numbered number) = ascii "Channel 0x" ++ hex1 (number .0)
 channelText Current = ascii "Current channel"
 channelText System = ascii "System channel"
 
+-- each case's outcome; "answers none, which counts as accepted"
 abbrev pub saidUnit : UnitAnswer → Outcome (Option LogicalUnit)
 saidUnit (Unit unit) = accepted (some unit)
 saidUnit Nothing = accepted none
@@ -67,9 +72,11 @@ saidUnit Nothing = accepted none
 abbrev pub units : List (Option LogicalUnit)
 units = some Zero ∷ some One ∷ some Two ∷ some Three ∷ []
 
+-- the unit of a number: connection/mod.rs, LogicalUnit
 abbrev pub unitOf : ℕ → Option LogicalUnit
 unitOf n = named units n
 
+-- its number
 abbrev pub unitValue : LogicalUnit → ℕ
 unitValue Zero = 0
 unitValue One = 1

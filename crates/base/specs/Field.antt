@@ -9,6 +9,7 @@ use Rattle.base.specs.Outcome.{Outcome, accepted, refused}
 use Rattle.base.specs.declared.field.FieldAnswer.{FieldAnswer}
 use Rattle.base.specs.declared.field.FieldAnswer.the-variants.{Number, NoForm}
 
+-- each case's outcome: 9 NoForm
 abbrev pub saidField : FieldAnswer → Outcome ℕ
 saidField (Number n) = accepted n
 saidField NoForm = refused 9 []

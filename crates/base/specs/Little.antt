@@ -2,6 +2,7 @@
 use Prim.Native.Nat.{ℕ, zero, suc, _+_, _*_, _/_, _%_}
 use mathlib.Core.List.{List, [], _∷_}
 
+-- the number of bytes, "low first"
 abbrev pub little : List ℕ → ℕ
 little [] = 0
 little (byte ∷ bytes) = byte + 256 * little bytes

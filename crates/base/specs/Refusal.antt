@@ -22,5 +22,6 @@ row Disagrees = (12, [])
 row (Incomplete index) = (13, index ∷ [])
 row BadLine = (14, [])
 
+-- "A refusal returns its number and what its name says it carries"
 abbrev pub refusal : {A : Type 0} → Refusal → Outcome A
 refusal r = refused (row r .0) (row r .1)

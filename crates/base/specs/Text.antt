@@ -6,6 +6,7 @@ use mathlib.Core.List.{List, [], _∷_, _++_}
 use lib.ListN.{getD}
 use Rattle.base.specs.Choice.{if_then_else_, _<?_}
 
+-- the codes of a text's characters
 abbrev pub ascii : String → List ℕ
 ascii empty = []
 ascii (_before_ character rest) = code character ∷ ascii rest

@@ -5,6 +5,7 @@ use Rattle.base.specs.Refusal.{refusal}
 use Rattle.base.specs.declared.verdict.Verdict.{Verdict}
 use Rattle.base.specs.declared.verdict.Verdict.the-variants.{Accepted, Refused}
 
+-- each case's outcome, without the record
 abbrev pub saidVerdict : Verdict → Outcome (Unit {0})
 saidVerdict Accepted = accepted tt
 saidVerdict (Refused r) = refusal r

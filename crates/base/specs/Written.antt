@@ -9,6 +9,7 @@ use Rattle.base.specs.Refusal.{refusal}
 use Rattle.base.specs.declared.written.Written.{Written}
 use Rattle.base.specs.declared.written.Written.the-variants.{Length, Refused}
 
+-- each case's outcome: "the request is written .. and its length returned"
 abbrev pub saidWritten : Written → Outcome ℕ
 saidWritten (Length n) = accepted n
 saidWritten (Refused r) = refusal r
@@ -19,6 +20,7 @@ written message buffer = do
   bytes ← message
   if length buffer <? length bytes then refused 11 [] else accepted bytes
 
+-- the length of a message; a refusal stays so
 unfoldable pub lengthOf : Outcome (List ℕ) → Outcome ℕ
 lengthOf message = do
   bytes ← message

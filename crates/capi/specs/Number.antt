@@ -62,10 +62,12 @@ pub record Codes (message : Outcome (List ℕ)) (number : ℕ) (before after : L
 
 -- what a C function that may answer none returns, and what it leaves in the buffer
 
+-- its number
 abbrev pub codeAny : Option (List ℕ) → List ℕ → ℕ
 codeAny (some bytes) buffer = code (lengthOf (written (accepted bytes) buffer))
 codeAny none buffer = noneBit
 
+-- the buffer: none leaves it as it was
 abbrev pub overAny : List ℕ → Option (List ℕ) → List ℕ
 overAny buffer (some bytes) = over buffer (written (accepted bytes) buffer)
 overAny buffer none = buffer

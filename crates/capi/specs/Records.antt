@@ -28,16 +28,19 @@ suitesRecord response = do
   suites ← suitesOf response
   suitesBytes suites
 
+-- of a response of Get Channel Access
 abbrev pub accessRecord : List ℕ → Outcome (List ℕ)
 accessRecord response = do
   access ← accessOf response
   accessLayout access
 
+-- of a response of Get Channel Info
 abbrev pub infoRecord : List ℕ → Outcome (List ℕ)
 infoRecord response = do
   info ← infoOf response
   infoLayout info
 
+-- of a response of Get Channel Authentication Capabilities
 abbrev pub capabilitiesRecord : List ℕ → Outcome (List ℕ)
 capabilitiesRecord response = do
   capabilities ← capabilitiesOf response

@@ -21,6 +21,7 @@ use Rattle.suites.specs.GetChannelCipherSuites as suites
 abbrev pub kinds : List (Option ChannelAccessType)
 kinds = none ∷ some NonVolatile ∷ some Volatile ∷ []
 
+-- 1 non-volatile, 2 volatile; 9 for any other
 abbrev pub kindOf : ℕ → Outcome ChannelAccessType
 kindOf n = required 9 [] (named kinds n)
 
@@ -32,35 +33,41 @@ typeOf n = required 4 (n ∷ []) (authTypeOf n)
 abbrev pub levelOf : ℕ → Outcome PrivilegeLevel
 levelOf n = required 5 (n ∷ []) (named privileges n)
 
+-- "request 41h, 2 bytes"
 abbrev pub accessRequest : ℕ → ℕ → Outcome (List ℕ)
 accessRequest number which = do
   channel ← channelOf number
   kind ← kindOf which
   access.commandBytes (access.command channel kind)
 
+-- "request 42h, 1 byte"
 abbrev pub infoRequest : ℕ → Outcome (List ℕ)
 infoRequest number = do
   command ← info.commandFor number
   info.commandBytes command
 
+-- "request 38h, 2 bytes"
 abbrev pub capabilitiesRequest : ℕ → ℕ → Outcome (List ℕ)
 capabilitiesRequest number privilege = do
   channel ← channelOf number
   level ← levelOf privilege
   capabilities.commandBytes (capabilities.command channel level)
 
+-- "request 39h, 17 bytes"
 abbrev pub challengeRequest : ℕ → List ℕ → Outcome (List ℕ)
 challengeRequest authType name = do
   kind ← typeOf authType
   command ← challenge.commandFor kind name
   accepted (challenge.commandBytes command)
 
+-- "request 3Ah, 22 bytes"
 abbrev pub activationRequest : ℕ → ℕ → List ℕ → ℕ → Outcome (List ℕ)
 activationRequest authType privilege string sequence = do
   kind ← typeOf authType
   level ← levelOf privilege
   accepted (activation.commandBytes (activation.command kind level string sequence))
 
+-- "request 54h, 3 bytes"
 abbrev pub suitesRequest : ℕ → ℕ → Outcome (List ℕ)
 suitesRequest number index = do
   command ← suites.commandFor number index

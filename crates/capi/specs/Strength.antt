@@ -31,6 +31,7 @@ offering key md5 md2 none =
       «oem_auxiliary_data» = 0;
     }
 
+-- weaker, equal, stronger
 abbrev pub orderNumber : Ordering → ℕ
 orderNumber Less = 0
 orderNumber Equal = 1

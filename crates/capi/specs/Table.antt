@@ -10,6 +10,7 @@ use Rattle.suites.specs.declared.get_channel_cipher_suites.CipherSuite.{CipherS
 use Rattle.suites.specs.declared.get_channel_cipher_suites.Row.{Row}
 use Rattle.suites.specs.declared.get_channel_cipher_suites.Step.{Step}
 
+-- a suite is its number
 abbrev pub suiteNumber : CipherSuite → ℕ
 suiteNumber suite = suite .0
 
@@ -18,6 +19,7 @@ abbrev pub rowBytes : Option Row → Option (List ℕ)
 rowBytes (some row) = some (row .authentication ∷ row .integrity ∷ row .confidentiality ∷ [])
 rowBytes none = none
 
+-- the three algorithms of a suite: its row of the table
 abbrev pub algorithmsOf : ℕ → Option (List ℕ)
 algorithmsOf n = rowBytes (rowOf n)
 

@@ -17,6 +17,7 @@ use Rattle.challenge.specs.declared.get_session_challenge.SessionChallen
 
 -- The request: the authentication type, then the name in sixteen bytes.
 
+-- a command holds its type and sixteen bytes of name
 abbrev pub command : AuthType → List ℕ → GetSessionChallenge
 command kind name = record { «auth_type» = kind; username = name }
 
@@ -28,6 +29,7 @@ noCommand = command None (replicate 16 0)
 abbrev pub commandFor : AuthType → List ℕ → Outcome GetSessionChallenge
 commandFor kind name = if 16 <? length name then refused 8 [] else accepted (command kind (padded 16 name))
 
+-- "request 39h, 17 bytes"
 abbrev pub commandBytes : GetSessionChallenge → List ℕ
 commandBytes c = authTypeValue (c .«auth_type») ∷ c .username
 
@@ -46,6 +48,7 @@ shown (byte ∷ name) = if byte =? 0 then [] else byte ∷ shown name
 
 -- The response: the temporary session's number, then the challenge in sixteen bytes.
 
+-- a challenge holds the session's number and sixteen bytes
 abbrev pub challenge : ℕ → List ℕ → SessionChallenge
 challenge id string = record { «temporary_session_id» = id; «challenge_string» = string }
 
@@ -61,6 +64,7 @@ challengeOf response =
       accepted (challenge id (drop 4 response)))
     else refused 1 []
 
+-- 9 for session number 0: no response reader gives it
 abbrev pub challengeBytes : SessionChallenge → Outcome (List ℕ)
 challengeBytes c = do
   id ← nonZero 9 (c .«temporary_session_id»)

@@ -23,25 +23,30 @@ use Rattle.channel.specs.declared.get_channel_access.CommandAnswer.{Comm
 use Rattle.channel.specs.declared.get_channel_access.CommandAnswer.the-variants.{Command, Refused}
 use Rattle.channel.specs.declared.get_channel_access.GetChannelAccess.{GetChannelAccess}
 
+-- each case's outcome
 abbrev pub saidCommand : CommandAnswer → Outcome GetChannelAccess
 saidCommand (Command command) = accepted command
 saidCommand (Refused r) = refusal r
 
+-- each case's outcome: 1 NotEnoughData
 abbrev pub saidAccess : AccessAnswer → Outcome ChannelAccess
 saidAccess (Access access) = accepted access
 saidAccess NotEnoughData = refused 1 []
 
 -- The request: byte 0 is the channel, byte 1 which settings.
 
+-- "0x40 non-volatile, 0x80 volatile"
 abbrev pub typeOf : ℕ → Outcome ChannelAccessType
 typeOf n =
     if n =? 0x40 then accepted NonVolatile else
     if n =? 0x80 then accepted Volatile else refused 10 []
 
+-- the same, from the type
 abbrev pub typeByte : ChannelAccessType → ℕ
 typeByte NonVolatile = 0x40
 typeByte Volatile = 0x80
 
+-- a command holds its channel and which settings it asks for
 abbrev pub command : Channel → ChannelAccessType → GetChannelAccess
 command channel kind = record { channel = channel; «access_type» = kind }
 
@@ -51,6 +56,7 @@ commandFor number kind = do
   channel ← channelOf number
   accepted (command channel kind)
 
+-- "request 41h, 2 bytes"; 9 for "a command whose channel no number makes"
 abbrev pub commandBytes : GetChannelAccess → Outcome (List ℕ)
 commandBytes c = do
   channel ← channelField (c .channel)
@@ -71,6 +77,7 @@ commandOf request =
 abbrev pub modes : List ChannelAccessMode
 modes = Mode.Disabled ∷ Mode.PreBootOnly ∷ Mode.AlwaysAvailable ∷ Mode.Shared ∷ []
 
+-- "low three bits mode (0 to 3 named)"
 abbrev pub modeOf : ℕ → ChannelAccessMode
 modeOf n = getD modes n (Mode.Unknown n)
 
@@ -78,6 +85,7 @@ modeOf n = getD modes n (Mode.Unknown n)
 abbrev pub limits : List ChannelPrivilegeLevel
 limits = Level.Reserved ∷ Level.Callback ∷ Level.User ∷ Level.Operator ∷ Level.Administrator ∷ Level.Oem ∷ []
 
+-- "low nibble is the limit (0 to 5 named)"
 abbrev pub limitOf : ℕ → ChannelPrivilegeLevel
 limitOf n = getD limits n (Level.Unknown n)
 
@@ -92,6 +100,7 @@ accessFields first second =
       «privilege_level_limit» = limitOf (bits 0 4 second);
     }
 
+-- "response at least 2"
 abbrev pub accessOf : List ℕ → Outcome ChannelAccess
 accessOf response =
     if length response <? 2 then refused 1 [] else
@@ -105,6 +114,7 @@ modeField Mode.AlwaysAvailable = accepted 2
 modeField Mode.Shared = accepted 3
 modeField (Mode.Unknown n) = within 4 7 n
 
+-- the same for a limit
 abbrev pub limitField : ChannelPrivilegeLevel → Outcome ℕ
 limitField Level.Reserved = accepted 0
 limitField Level.Callback = accepted 1
@@ -114,12 +124,14 @@ limitField Level.Administrator = accepted 4
 limitField Level.Oem = accepted 5
 limitField (Level.Unknown n) = within 6 15 n
 
+-- the fields at their bits; 9 for a mode or limit that no reader gives
 abbrev pub accessBytes : ChannelAccess → Outcome (List ℕ)
 accessBytes a = do
   mode ← modeField (a .«access_mode»)
   limit ← limitField (a .«privilege_level_limit»)
   accepted ((mode + raised 3 (a .«user_level_auth_disabled») + raised 4 (a .«per_msg_auth_disabled») + raised 5 (a .«alerting_disabled»)) ∷ limit ∷ [])
 
+-- the Rust's is_disabled: the mode alone
 abbrev pub isDisabled : ChannelAccessMode → Bool
 isDisabled Mode.Disabled = true
 isDisabled Mode.PreBootOnly = false
@@ -127,6 +139,7 @@ isDisabled Mode.AlwaysAvailable = false
 isDisabled Mode.Shared = false
 isDisabled (Mode.Unknown n) = false
 
+-- the Rust's Display
 abbrev pub modeText : ChannelAccessMode → List ℕ
 modeText Mode.Disabled = ascii "Disabled"
 modeText Mode.PreBootOnly = ascii "Pre-boot Only"
@@ -134,6 +147,7 @@ modeText Mode.AlwaysAvailable = ascii "Always Available"
 modeText Mode.Shared = ascii "Shared"
 modeText (Mode.Unknown n) = coded (ascii "Unknown") n
 
+-- the Rust's Display
 abbrev pub limitText : ChannelPrivilegeLevel → List ℕ
 limitText Level.Reserved = ascii "Reserved"
 limitText Level.Callback = ascii "Callback"

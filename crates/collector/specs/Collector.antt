@@ -10,12 +10,15 @@ use Rattle.collector.specs.declared.Collector.{Collector}
 use Rattle.collector.specs.declared.Status.{Status}
 use Rattle.collector.specs.declared.Status.the-variants.{Complete, Missing, NoForm}
 
+-- "0x3F"
 abbrev pub lastIndex : ℕ
 lastIndex = 0x3F
 
+-- "16"
 abbrev pub partLength : ℕ
 partLength = 16
 
+-- "1,024"
 abbrev pub capacity : ℕ
 capacity = 1024
 
@@ -25,10 +28,12 @@ parts = capacity / partLength
 
 infixr 30 _and_
 infixr 20 _or_
+-- both tests pass
 abbrev pub _and_ : Bool → Bool → Bool
 true and b = b
 false and b = false
 
+-- one of them does
 abbrev pub _or_ : Bool → Bool → Bool
 true or b = true
 false or b = b
@@ -85,6 +90,7 @@ standsAt bytes n part = allBelow (length part) (λ j. getD bytes (n + j) 0 =? ge
 unfoldable pub holds : Collector → ℕ → List ℕ → Bool
 holds c i part = (getD (c .marks) i 0 =? suc (length part)) and standsAt (c .bytes) (partLength * i) part
 
+-- the part at its place, and its mark
 abbrev pub put : Collector → ℕ → List ℕ → Collector
 put c i part = record { bytes = paste (c .bytes) (partLength * i) part (length part); marks = set (c .marks) i (suc (length part)) }
 
@@ -111,6 +117,7 @@ lowest marks (suc n) = if lowest marks n <? n then lowest marks n else if getD m
 abbrev pub completeBy : List ℕ → Bool
 completeBy marks = (lowest marks parts =? parts) or ((0 <? lowest marks parts) and (getD marks (lowest marks parts - 1) 0 <? suc partLength))
 
+-- by its marks alone
 unfoldable pub isComplete : Collector → Bool
 isComplete c = completeBy (c .marks)
 
@@ -119,17 +126,20 @@ pub data Standing : Type 0 where
   complete : ℕ → Standing
   missing : ℕ → Standing
 
+-- 9 for "a collector that no calls make from a fresh one"
 abbrev pub standingOf : Collector → Outcome Standing
 standingOf c =
     if wellFormed c
     then accepted (if isComplete c then complete (leastTo (c .marks) parts) else missing (lowest (c .marks) parts))
     else refused 9 []
 
+-- each case's outcome
 abbrev pub saidStatus : Status → Outcome Standing
 saidStatus (Complete n) = accepted (complete n)
 saidStatus (Missing i) = accepted (missing i)
 saidStatus NoForm = refused 9 []
 
+-- the list, or 13 "with the lowest unheard index"
 abbrev pub listBy : List ℕ → Standing → Outcome (List ℕ)
 listBy bytes (complete n) = accepted (take n bytes)
 listBy bytes (missing i) = refused 13 (i ∷ [])

@@ -15,9 +15,11 @@ pub record Call : Type 0 where
   pub index : ℕ
   pub content : List ℕ
 
+-- every element is a byte
 abbrev pub IsBytes : List ℕ → Type 0
 IsBytes list = (k : ℕ) → getD list k 0 < 256
 
+-- every call's content is bytes
 abbrev pub Calls : List Call → Type 0
 Calls [] = Unit {0}
 Calls (call ∷ earlier) = IsBytes (call .content) × Calls earlier
@@ -54,6 +56,7 @@ abbrev pub HeardIn : ℕ → List Call → Type 0
 HeardIn i [] = ⊥
 HeardIn i (call ∷ earlier) = (call .index ≡ i) ⊎ HeardIn i earlier
 
+-- the call is one of the calls
 abbrev pub Among : Call → List Call → Type 0
 Among call [] = ⊥
 Among call (other ∷ earlier) = (other ≡ call) ⊎ Among call earlier

@@ -30,15 +30,19 @@ partly j m = if m =? 0 then 0 else if m <? suc partLength then j else 0
 abbrev pub free : ℕ → ℕ → ℕ
 free j m = if m =? 0 then j else 0
 
+-- one more than the last index below n whose part is not empty, or 0
 unfoldable pub topTo : List ℕ → ℕ → ℕ
 topTo marks n = maxTo (λ i. filled (i + 1) (getD marks i 0)) n
 
+-- 64 less the first index below n whose heard part is not full, or 0
 unfoldable pub gapTo : List ℕ → ℕ → ℕ
 gapTo marks n = maxTo (λ i. partly (parts - i) (getD marks i 0)) n
 
+-- the largest mark below n
 unfoldable pub mostTo : List ℕ → ℕ → ℕ
 mostTo marks n = maxTo (λ i. getD marks i 0) n
 
+-- 64 less the lowest unheard index below n, or 0
 unfoldable pub freeTo : List ℕ → ℕ → ℕ
 freeTo marks n = maxTo (λ i. free (parts - i) (getD marks i 0)) n
 
@@ -50,6 +54,7 @@ most bytes at n = maxTo (λ j. getD bytes (at + j) 0) n
 unfoldable pub holes : List ℕ → List ℕ → ℕ → ℕ → ℕ
 holes bytes marks k n = maxTo (λ i. free (most bytes (partLength * (k + i)) partLength) (getD marks (k + i) 0)) n
 
+-- the four of all marks
 abbrev pub shapeOf : List ℕ → Shape
 shapeOf marks = record { top = topTo marks parts; gap = gapTo marks parts; most = mostTo marks parts; free = freeTo marks parts }
 
@@ -61,6 +66,7 @@ fits s = if suc partLength <? s .most then false else if suc parts <? s .top + s
 abbrev pub completeShape : Shape → Bool
 completeShape s = (s .free =? 0) or (s .free <? s .gap)
 
+-- the shape is that of the marks, and it fits
 pub record ShapeFits (marks : List ℕ) (s : Shape) : Type 0 where
   pub is : s ≡ shapeOf marks
   pub fit : fits s ≡ true

@@ -41,11 +41,13 @@ longest = 256
 abbrev pub letters : ℕ
 letters = 3
 
+-- the line has the word's letters first
 abbrev pub begins : List ℕ → List ℕ → Bool
 begins [] line = true
 begins (letter ∷ word) [] = false
 begins (letter ∷ word) (first ∷ line) = if first =? letter then begins word line else false
 
+-- the five words; any other is none of them
 unfoldable pub wordOf : List ℕ → Word
 wordOf line =
     if begins (ascii "inf") line then Inf else
@@ -63,6 +65,7 @@ abbrev pub shown : {A : Type 0} → Kind → (A → List ℕ) → Outcome A → 
 shown kind text (accepted a) = record { kind = kind; text = text a }
 shown kind text (refused number carried) = refusing number
 
+-- the collector stays
 abbrev pub keeping : Collector → Said → Answer
 keeping c said = record { said = said; collector = c }
 
@@ -75,6 +78,7 @@ abbrev pub hearing : Collector → ℕ → List ℕ → Outcome Collector → An
 hearing c index response (accepted taken) = record { said = record { kind = Block; text = blockText index (length response) }; collector = taken }
 hearing c index response (refused number carried) = keeping c (refusing number)
 
+-- `sui`: "an index, then a response"
 abbrev pub heard : Collector → ℕ → List ℕ → Answer
 heard c index response = hearing c index response (taking c index response)
 
@@ -83,6 +87,7 @@ abbrev pub listed : Outcome (List ℕ) → Said
 listed (accepted list) = record { kind = Suites; text = suitesText (numbersOf list) }
 listed (refused number carried) = if number =? 13 then record { kind = Missing; text = missingText (byte 0 carried) } else refusing number
 
+-- "lists suites and starts a fresh collector", also where the list is not complete
 abbrev pub ending : Collector → Answer
 ending c = record { said = listed (listOf c); collector = fresh }
 
@@ -97,6 +102,7 @@ saying c End [] = ending c
 saying c End (first ∷ bytes) = badLine c
 saying c Other bytes = badLine c
 
+-- what stands behind the word is hex pairs, or the line has another form
 abbrev pub reading : Collector → Word → Outcome (List ℕ) → Answer
 reading c word (accepted bytes) = saying c word bytes
 reading c word (refused number carried) = badLine c

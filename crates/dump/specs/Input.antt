@@ -20,6 +20,7 @@ unfoldable pub linesFrom : List ℕ → List ℕ → List (List ℕ)
 linesFrom [] held = lastLine held
 linesFrom (byte ∷ input) held = if byte =? newline then held ∷ linesFrom input [] else linesFrom input (held ++ (byte ∷ []))
 
+-- the lines of a whole input
 abbrev pub linesOf : List ℕ → List (List ℕ)
 linesOf input = linesFrom input []
 
@@ -28,6 +29,7 @@ unfoldable pub answersFrom : Collector → List (List ℕ) → List ℕ
 answersFrom c [] = []
 answersFrom c (line ∷ lines) = answering c line .said .text ++ (newline ∷ answersFrom (answering c line .collector) lines)
 
+-- the heading, then the answers
 unfoldable pub outputOf : List ℕ → List ℕ
 outputOf input = ascii "chandump 1" ++ (newline ∷ answersFrom fresh (linesOf input))
 
@@ -35,6 +37,7 @@ outputOf input = ascii "chandump 1" ++ (newline ∷ answersFrom fresh (linesOf i
 abbrev pub Line : List ℕ → Type 0
 Line line = lineLength line ≡ length line
 
+-- each is a line
 abbrev pub Lines : List (List ℕ) → Type 0
 Lines [] = Unit {0}
 Lines (line ∷ lines) = Line line × Lines lines

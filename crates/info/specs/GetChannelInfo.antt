@@ -17,16 +17,19 @@ use Rattle.info.specs.declared.get_channel_info.GetChannelInfo.{GetChann
 use Rattle.info.specs.declared.get_channel_info.InfoAnswer.{InfoAnswer}
 use Rattle.info.specs.declared.get_channel_info.InfoAnswer.the-variants.{Info, NotEnoughData}
 
+-- each case's outcome
 abbrev pub saidCommand : CommandAnswer → Outcome GetChannelInfo
 saidCommand (Command command) = accepted command
 saidCommand (Refused r) = refusal r
 
+-- each case's outcome: 1 NotEnoughData
 abbrev pub saidInfo : InfoAnswer → Outcome ChannelInfo
 saidInfo (Info info) = accepted info
 saidInfo NotEnoughData = refused 1 []
 
 -- The request: one byte, the channel.
 
+-- a command holds its channel
 abbrev pub command : Channel → GetChannelInfo
 command channel = record { channel = channel }
 
@@ -36,6 +39,7 @@ commandFor number = do
   channel ← channelOf number
   accepted (command channel)
 
+-- "request 42h, 1 byte"; 9 for "a command whose channel no number makes"
 abbrev pub commandBytes : GetChannelInfo → Outcome (List ℕ)
 commandBytes c = do
   channel ← channelField (c .channel)

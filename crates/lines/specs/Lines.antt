@@ -8,6 +8,7 @@ use Rattle.base.specs.Text.{digit}
 use Rattle.lines.specs.declared.ByteAnswer.{ByteAnswer}
 use Rattle.lines.specs.declared.ByteAnswer.the-variants.{Byte, BadLine}
 
+-- each case's outcome: 14 BadLine
 abbrev pub saidByte : ByteAnswer → Outcome ℕ
 saidByte (Byte n) = accepted n
 saidByte BadLine = refused 14 []
@@ -19,9 +20,11 @@ digitOf byte =
     if byte from 0x41 to 0x46 then accepted (byte - 0x37) else
     if byte from 0x61 to 0x66 then accepted (byte - 0x57) else refused 14 []
 
+-- "one space before each"
 abbrev pub space : ℕ
 space = 0x20
 
+-- what ends a line
 abbrev pub newline : ℕ
 newline = 0x0A
 

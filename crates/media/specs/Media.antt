@@ -33,11 +33,13 @@ protocolOf n = getD protocols n (if n from 0x1C to 0x1F then Protocol.Oem n else
 abbrev pub sessions : List ChannelSessionSupport
 sessions = Session.Sessionless ∷ Session.SingleSession ∷ Session.MultiSession ∷ Session.SessionBased ∷ []
 
+-- two bits: each of the four has a name, Table 22-29
 abbrev pub sessionOf : ℕ → ChannelSessionSupport
 sessionOf n = getD sessions n (Session.Reserved n)
 
 -- what the field of a message has for each: 9 where no reading of the field gives it
 
+-- of a medium, by Table 6-3
 abbrev pub mediumField : ChannelMediumType → Outcome ℕ
 mediumField Medium.Reserved = accepted 0
 mediumField Medium.Ipmb = accepted 1
@@ -55,6 +57,7 @@ mediumField Medium.SystemInterface = accepted 12
 mediumField (Medium.Oem n) = within 0x60 0x7F n
 mediumField (Medium.ReservedValue n) = within 0x0D 0x5F n
 
+-- of a protocol, by Table 6-2
 abbrev pub protocolField : ChannelProtocolType → Outcome ℕ
 protocolField Protocol.Reserved = accepted 0
 protocolField Protocol.IpmbV1_0 = accepted 1
@@ -68,6 +71,7 @@ protocolField Protocol.TerminalMode = accepted 9
 protocolField (Protocol.Oem n) = within 0x1C 0x1F n
 protocolField (Protocol.ReservedValue n) = if n =? 3 then accepted 3 else within 0x0A 0x1B n
 
+-- of session support, by Table 22-29
 abbrev pub sessionField : ChannelSessionSupport → Outcome ℕ
 sessionField Session.Sessionless = accepted 0
 sessionField Session.SingleSession = accepted 1
@@ -75,6 +79,7 @@ sessionField Session.MultiSession = accepted 2
 sessionField Session.SessionBased = accepted 3
 sessionField (Session.Reserved n) = refused 9 []
 
+-- the Rust's Display
 abbrev pub mediumText : ChannelMediumType → List ℕ
 mediumText Medium.Reserved = ascii "Reserved"
 mediumText Medium.Ipmb = ascii "IPMB (I2C)"
@@ -92,6 +97,7 @@ mediumText Medium.SystemInterface = ascii "System Interface"
 mediumText (Medium.Oem n) = coded (ascii "OEM") n
 mediumText (Medium.ReservedValue n) = coded (ascii "Reserved") n
 
+-- the Rust's Display
 abbrev pub protocolText : ChannelProtocolType → List ℕ
 protocolText Protocol.Reserved = ascii "Reserved"
 protocolText Protocol.IpmbV1_0 = ascii "IPMB-1.0"
@@ -105,6 +111,7 @@ protocolText Protocol.TerminalMode = ascii "Terminal Mode"
 protocolText (Protocol.Oem n) = coded (ascii "OEM") n
 protocolText (Protocol.ReservedValue n) = coded (ascii "Reserved") n
 
+-- the Rust's Display
 abbrev pub sessionText : ChannelSessionSupport → List ℕ
 sessionText Session.Sessionless = ascii "Session-less"
 sessionText Session.SingleSession = ascii "Single-session"

@@ -19,12 +19,14 @@ use Rattle.session.specs.declared.activate_session.BeginAnswer.{BeginAns
 use Rattle.session.specs.declared.activate_session.BeginAnswer.the-variants.{Session, Refused}
 use Rattle.session.specs.declared.activate_session.BeginSessionInfo.{BeginSessionInfo}
 
+-- each case's outcome
 abbrev pub saidBegin : BeginAnswer → Outcome BeginSessionInfo
 saidBegin (Session session) = accepted session
 saidBegin (Refused r) = refusal r
 
 -- The request: authentication type, level, challenge in sixteen bytes, sequence number in four.
 
+-- a command holds its four fields
 abbrev pub command : AuthType → PrivilegeLevel → List ℕ → ℕ → ActivateSession
 command kind level challenge first =
     record { «auth_type» = kind; «maximum_privilege_level» = level; «challenge_string» = challenge; «initial_sequence_number» = first }
@@ -33,6 +35,7 @@ command kind level challenge first =
 abbrev pub noCommand : ActivateSession
 noCommand = command None Callback (replicate 16 0) 0
 
+-- "request 3Ah, 22 bytes"
 abbrev pub commandBytes : ActivateSession → List ℕ
 commandBytes c =
     authTypeValue (c .«auth_type») ∷ privilegeValue (c .«maximum_privilege_level») ∷ c .«challenge_string» ++ littleBytes 4 (c .«initial_sequence_number»)
@@ -62,6 +65,7 @@ beginOf response =
         «maximum_privilege_level» = level;
       })
 
+-- 9 for session number 0: no response reader gives it
 abbrev pub beginBytes : BeginSessionInfo → Outcome (List ℕ)
 beginBytes s = do
   id ← nonZero 9 (s .«session_id»)

@@ -6,6 +6,7 @@ use Rattle.collector.specs.Collector.{listOf}
 use Rattle.collector.specs.declared.Collector.{Collector}
 use Rattle.suites.specs.GetChannelCipherSuites.{numbersOf}
 
+-- the suites of the list that it holds, "a number byte each"
 abbrev pub suitesOf : Collector → Outcome (List ℕ)
 suitesOf c = do
   list ← listOf c

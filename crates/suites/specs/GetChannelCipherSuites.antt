@@ -31,15 +31,18 @@ use Rattle.suites.specs.declared.get_channel_cipher_suites.Step.{Step}
 use Rattle.suites.specs.declared.get_channel_cipher_suites.SuiteAnswer.{SuiteAnswer}
 use Rattle.suites.specs.declared.get_channel_cipher_suites.SuiteAnswer.the-variants as SuiteAnswers
 
+-- each case's outcome
 abbrev pub saidCommand : CommandAnswer → Outcome GetChannelCipherSuites
 saidCommand (Command command) = accepted command
 saidCommand (Refused r) = refusal r
 
 -- The request: the channel, payload type 0, and the index, bit 7 above it clear.
 
+-- a command holds its channel and its index
 abbrev pub command : Channel → ℕ → GetChannelCipherSuites
 command channel index = record { channel = channel; «list_index» = index }
 
+-- 7 for a "list index above 0x3F"
 abbrev pub commandOn : Channel → ℕ → Outcome GetChannelCipherSuites
 commandOn channel index = if lastIndex <? index then refused 7 [] else accepted (command channel index)
 
@@ -49,6 +52,7 @@ commandFor number index = do
   channel ← channelOf number
   commandOn channel index
 
+-- "request 54h, 3 bytes"; 9 for a channel that no number makes, or an index above 0x3F
 abbrev pub commandBytes : GetChannelCipherSuites → Outcome (List ℕ)
 commandBytes c = do
   channel ← channelField (c .channel)
@@ -65,6 +69,7 @@ commandOf request =
 
 -- The response: a part of the list, as the Rust reads it.
 
+-- the bytes, their number, and zeros up to sixteen
 abbrev pub part : List ℕ → ChannelCipherSuites
 part bytes = record { «data_length» = length bytes; «record_data» = padded partLength bytes }
 
@@ -72,9 +77,11 @@ part bytes = record { «data_length» = length bytes; «record_data» = padded p
 abbrev pub noSuites : ChannelCipherSuites
 noSuites = part []
 
+-- 2 for a "suite response above 16 bytes"
 abbrev pub suitesOf : List ℕ → Outcome ChannelCipherSuites
 suitesOf response = if partLength <? length response then refused 2 [] else accepted (part response)
 
+-- every byte is zero
 unfoldable pub zeros : List ℕ → Bool
 zeros [] = true
 zeros (byte ∷ bytes) = if byte =? 0 then zeros bytes else false
@@ -87,14 +94,17 @@ suitesBytes s =
 
 -- The suites.
 
+-- each case's outcome; "answers none, which counts as accepted"
 abbrev pub saidSuite : SuiteAnswer → Outcome (Option CipherSuite)
 saidSuite (SuiteAnswers.Suite suite) = accepted (some suite)
 saidSuite SuiteAnswers.Nothing = accepted none
 
+-- each case's outcome; "answers none, which counts as accepted"
 abbrev pub saidRow : RowAnswer → Outcome (Option Row)
 saidRow (RowAnswers.Row row) = accepted (some row)
 saidRow RowAnswers.Nothing = accepted none
 
+-- three algorithm numbers
 abbrev pub row : ℕ → ℕ → ℕ → Row
 row a i c = record { authentication = a; integrity = i; confidentiality = c }
 
@@ -123,9 +133,11 @@ suites =
     row 3 4 3 ∷
     []
 
+-- "lookups by number": the row that stands at it
 abbrev pub rowOf : ℕ → Option Row
 rowOf n = named (map some suites) n
 
+-- a suite is its number
 abbrev pub suite : ℕ → CipherSuite
 suite n = record { 0 = n }
 
@@ -133,6 +145,7 @@ suite n = record { 0 = n }
 abbrev pub suiteOf : ℕ → Option CipherSuite
 suiteOf n = if n <? 20 then some (suite n) else none
 
+-- the three numbers are equal
 abbrev pub same : Row → Row → Bool
 same a b = if a .authentication =? b .authentication then (if a .integrity =? b .integrity then a .confidentiality =? b .confidentiality else false) else false
 
@@ -141,6 +154,7 @@ abbrev pub find : List Row → ℕ → Row → Option CipherSuite
 find [] n r = none
 find (x ∷ rows) n r = if same x r then some (suite n) else find rows (suc n) r
 
+-- "lookups .. by triple"
 abbrev pub suiteFor : Row → Option CipherSuite
 suiteFor r = find suites 0 r
 
@@ -149,9 +163,11 @@ abbrev pub column : {A : Type 0} → (Row → Option A) → Option Row → Optio
 column name none = none
 column name (some r) = name r
 
+-- the first column
 abbrev pub authenticationOf : ℕ → Option AuthenticationAlgorithm
 authenticationOf n = column (λ r. Algorithms.authenticationOf (r .authentication)) (rowOf n)
 
+-- the second column
 abbrev pub integrityOf : ℕ → Option IntegrityAlgorithm
 integrityOf n = column (λ r. Algorithms.integrityOf (r .integrity)) (rowOf n)
 
@@ -173,6 +189,7 @@ algorithms = 3
 abbrev pub nothing : ℕ → Bool → Step
 nothing position failed = record { answer = SuiteAnswers.Nothing; position = position; failed = failed }
 
+-- a step that gives a suite, and where it ends
 abbrev pub gives : CipherSuite → ℕ → Step
 gives s position = record { answer = SuiteAnswers.Suite s; position = position; failed = false }
 
@@ -212,6 +229,7 @@ upTo (suc k) list position failed = before (stepAt list position failed .answer)
 abbrev pub numbersOf : List ℕ → List ℕ
 numbersOf list = upTo (length list) list 0 false
 
+-- the step gave a suite
 abbrev pub isSuite : SuiteAnswer → Bool
 isSuite (SuiteAnswers.Suite s) = true
 isSuite SuiteAnswers.Nothing = false
@@ -220,5 +238,6 @@ isSuite SuiteAnswers.Nothing = false
 abbrev pub stepOf : Iter → Step
 stepOf reader = stepAt (now (reader .list)) (reader .position) (reader .failed)
 
+-- it holds the same list, and goes on where the step ended
 abbrev pub moved : Iter → Step → Iter
 moved reader step = record { list = reader .list; position = step .position; failed = step .failed }

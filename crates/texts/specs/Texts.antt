@@ -16,6 +16,7 @@ use Rattle.media.specs.Media.{mediumText, protocolText, sessionText}
 use Rattle.info.specs.declared.get_channel_info.ChannelInfo.{ChannelInfo}
 use Rattle.lines.specs.Lines.{decimal, space}
 
+-- the line that answers `inf`
 unfoldable pub infoText : ChannelInfo → List ℕ
 infoText i =
     (ascii "info " ++ channelText (i .channel) ++ ascii ", " ++ mediumText (i .«medium_type»))
@@ -27,6 +28,7 @@ infoText i =
 abbrev pub stateText : Bool → List ℕ
 stateText disabled = if disabled then ascii "off" else ascii "on"
 
+-- the line that answers `acc`
 unfoldable pub accessText : ChannelAccess → List ℕ
 accessText a =
     ascii "access " ++ modeText (a .«access_mode»)
@@ -40,10 +42,12 @@ abbrev pub nameOr : Option AuthType → List ℕ
 nameOr (some kind) = authTypeName kind
 nameOr none = ascii "-"
 
+-- the type that was answered
 abbrev pub chosen : AuthTypeAnswer → Option AuthType
 chosen (Answer.AuthType kind) = some kind
 chosen Answer.Nothing = none
 
+-- the line that answers `cap`
 unfoldable pub authText : Option AuthType → List ℕ
 authText best = ascii "auth " ++ nameOr best
 
@@ -51,6 +55,7 @@ authText best = ascii "auth " ++ nameOr best
 unfoldable pub blockText : ℕ → ℕ → List ℕ
 blockText index n = ascii "block " ++ decimal index ++ ascii ", " ++ decimal n ++ ascii " bytes"
 
+-- numbers in decimal, a space before each
 unfoldable pub spaced : List ℕ → List ℕ
 spaced [] = []
 spaced (n ∷ numbers) = (space ∷ decimal n) ++ spaced numbers
