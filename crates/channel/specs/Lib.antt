@@ -1,1 +1,2 @@
 pub mod GetChannelAccess
+pub mod SetChannelAccess
