@@ -78,7 +78,12 @@ impl AccessPair {
         }
     }
 
-    fn chosen(self, kind: ChannelAccessType, set: ChannelAccess, before: ChannelAccess) -> ChannelAccess
+    fn chosen(
+        self,
+        kind: ChannelAccessType,
+        set: ChannelAccess,
+        before: ChannelAccess,
+    ) -> ChannelAccess
         ensures { λ r. ⌜ r ≡ chosen self kind set before ⌝ }
     {
         if self.sets(kind) {
