@@ -13,14 +13,13 @@ use lib.ListN.{List·getD-eq-default, length, take, drop, length-drop}
 use lib.Pow.{field, mod-mod-pow, mod-pow-add, shl-exact}
 use lib.Seq.{take-all}
 use mir.Val.{boolByte}
-use Rattle.base.specs.Choice.{if_then_else_}
 use Rattle.base.specs.Connection.{channelOf, channelField}
 use Rattle.base.specs.Field.{byte, bits, flag, within}
 use Rattle.base.specs.Outcome.{Outcome, accepted, refused, _>>=_, faultsAs}
 use Rattle.base.specs.Written.{Writes, written, lengthOf}
 use Rattle.base.specs.declared.refusal.Refusal.{Refusal}
 use Rattle.base.specs.declared.written.Written.the-variants.{Length, Refused}
-use Rattle.base.proofs.Outcome.{apart, steps, Only, only-steps, no-form, ranged, inside}
+use Rattle.base.proofs.Outcome.{apart, steps, Only, only-steps, no-form, ranged}
 use Rattle.base.proofs.connection.Laws.{begins-only, channel-iff, channel-small}
 use Rattle.base.proofs.field.Laws.{below, bit-small, same, so-long}
 use Rattle.base.proofs.little.Laws.{Bytes, a-byte}
@@ -118,7 +117,7 @@ is-bit at n = below 2 (λ b. boolByte (eqb b 1)) (λ b. b) refl (bits at 1 n) (o
 bit-next : (n at : ℕ) → bits 0 at n + bits at 1 n * 2 ^ at ≡ bits 0 (1 + at) n
 bit-next n at = rw div-one (add-comm (n % 2 ^ at) (bits at 1 n * 2 ^ at) ∙ sym (mod-pow-add n 1 at))
 
-pub again : (y z : ℕ) → accessBytes (accessFields y z) ≡ accepted (bits 0 6 y ∷ bits 0 4 z ∷ [])
+again : (y z : ℕ) → accessBytes (accessFields y z) ≡ accepted (bits 0 6 y ∷ bits 0 4 z ∷ [])
 again y z =
     rw
     (mode-given (bits 0 3 y) (omega arith), limit-given (bits 0 4 z) (omega arith), is-bit 3 y, is-bit 4 y, is-bit 5 y, bit-next y 3, bit-next y 4, bit-next y 5)

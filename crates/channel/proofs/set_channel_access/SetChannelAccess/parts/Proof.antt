@@ -1,5 +1,5 @@
 use borrow.Author.Needs.{needs}
-use mathlib.Core.Path.{_≡_, sym, _∙_, ap}
+use mathlib.Core.Path.{sym, _∙_, ap}
 use lib.ListN.{getD}
 use Rattle.base.specs.Field.{saidField}
 use Rattle.channel.proofs.set_channel_access.Laws.{not-shown, pair-back, set-pair, shown, shown-two}
