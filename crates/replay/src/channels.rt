@@ -61,13 +61,11 @@ fn session(session: ChannelSessionSupport, at: usize, out: &mut [u8]) -> usize {
     copied(written, &words, at, out)
 }
 
-fn access_of(response: &[u8], out: &mut [u8]) -> usize {
-    let AccessAnswer::Access(access) = ChannelAccess::parse(response) else {
-        return refused(Refusal::NotEnoughData, out);
-    };
+// A record of settings, up to its limit.
+pub(crate) fn access_text(access: ChannelAccess, at: usize, out: &mut [u8]) -> usize {
     let access_mode = access.access_mode;
     let privilege_level_limit = access.privilege_level_limit;
-    let at = mode(access_mode, 0, out);
+    let at = mode(access_mode, at, out);
     let at = flag(b", alerting_disabled ", access.alerting_disabled, at, out);
     let at = flag(
         b", per_msg_auth_disabled ",
@@ -82,7 +80,14 @@ fn access_of(response: &[u8], out: &mut [u8]) -> usize {
         out,
     );
     let at = text(b", ", at, out);
-    let at = limit(privilege_level_limit, at, out);
+    limit(privilege_level_limit, at, out)
+}
+
+fn access_of(response: &[u8], out: &mut [u8]) -> usize {
+    let AccessAnswer::Access(access) = ChannelAccess::parse(response) else {
+        return refused(Refusal::NotEnoughData, out);
+    };
+    let at = access_text(access, 0, out);
     flag(b", is_disabled ", access.is_disabled(), at, out)
 }
 

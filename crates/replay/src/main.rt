@@ -1,4 +1,5 @@
-// Answers the questions on standard input from the port, a line each, as tests/oracle answers them from the Rust.
+// Answers the questions on standard input from the port, a line each, as tests/oracle answers them from the Rust and
+// tests/model those on Set Channel Access.
 ghost use Prim.Native.Nat.{_<_};
 use crate::question::answer;
 use libc::STDIN_FILENO;
@@ -11,6 +12,7 @@ mod leaves;
 mod put;
 mod question;
 mod sessions;
+mod settings;
 
 // More than an answer and its newline take.
 const ROOM: usize = 8192;

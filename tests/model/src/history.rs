@@ -9,16 +9,16 @@ pub const KINDS: u8 = 6;
 
 /// A linear congruential generator: it needs no more than a multiplication, and
 /// its high bits are good enough here.
-struct Random(u32);
+pub(crate) struct Random(u32);
 
 impl Random {
     /// From the bytes of the question, spread by the hash.
-    fn new(seed: &[u8]) -> Self {
+    pub(crate) fn new(seed: &[u8]) -> Self {
         Self(hash(seed, OFFSET))
     }
 
     /// The next number of 16 bits.
-    fn next(&mut self) -> usize {
+    pub(crate) fn next(&mut self) -> usize {
         self.0 = self.0.wrapping_mul(1_664_525).wrapping_add(1_013_904_223);
         (self.0 >> 16) as usize
     }

@@ -1,8 +1,10 @@
 //! A model of the collector, made from the demand and from nothing of the port:
-//! what does a fresh collector say of a history of answers?
+//! what does a fresh collector say of a history of answers? And one of Set
+//! Channel Access, made likewise.
 
 pub mod collector;
 pub mod history;
+pub mod settings;
 mod text;
 
 use collector::{answer_of, Answer, Collector, Hears, Status, LAST_INDEX, PART};
@@ -16,9 +18,10 @@ const MOST_ANSWERS: usize = 128;
 /// Random histories for a long run.
 const MILLION: u32 = 1 << 20;
 
-/// The model's answer to a line, which comes without its newline.
+/// The models' answer to a line, which comes without its newline.
 pub fn answer(line: &[u8]) -> String {
-    answer_by::<Collector>(line)
+    let set = text::read(line).and_then(|(word, data)| settings::answer(word, &data));
+    set.unwrap_or_else(|| answer_by::<Collector>(line))
 }
 
 /// The answer of any collector.
@@ -78,7 +81,7 @@ fn pairs_all<C: Hears>(index: u8, length: u8) -> String {
     )
 }
 
-/// The list of questions, in order.
+/// The list of questions on the collector, in order.
 pub fn questions() -> Vec<String> {
     let mut list = Vec::new();
     spelled_questions(&mut list);

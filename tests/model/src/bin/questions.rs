@@ -1,5 +1,6 @@
-//! Writes the list of questions, a line each; with the word `million`, those of
-//! a million random histories instead.
+//! Writes the list of questions on the collector, a line each; with the word
+//! `million`, those of a million random histories instead; with the word
+//! `settings`, the list on Set Channel Access.
 
 use std::io::{self, BufWriter, Write};
 
@@ -8,7 +9,8 @@ fn main() -> io::Result<()> {
     let list = match words.iter().map(String::as_str).collect::<Vec<_>>()[..] {
         [] => collector_model::questions(),
         ["million"] => collector_model::million(),
-        _ => return Err(io::Error::other("usage: questions [million]")),
+        ["settings"] => collector_model::settings::questions(),
+        _ => return Err(io::Error::other("usage: questions [million|settings]")),
     };
     let mut output = BufWriter::new(io::stdout().lock());
     for question in list {
