@@ -1,0 +1,69 @@
+-- Laws of the layouts: what C is given comes back as it was.
+use mathlib.Core.Bool.{Bool, true, false, not}
+use mathlib.Core.List.{List, [], _∷_, _++_}
+use mathlib.Core.Path.{_≡_, refl, ap}
+use mir.Val.{boolByte}
+use Prim.Native.Nat.{ℕ, zero, suc, _+_}
+use native.Mathlib.Omega.{arith}
+use lib.ListN.{drop}
+use lib.Seq.{getD-drop}
+use Rattle.base.specs.Choice.{_=?_}
+use Rattle.base.specs.Field.{byte}
+use Rattle.base.specs.Outcome.{Outcome, accepted, refused, _>>=_}
+use Rattle.base.proofs.Outcome.{apart}
+use Rattle.channel.specs.GetChannelAccess.{limitField, limitOf, modeField, modeOf}
+use Rattle.channel.specs.declared.get_channel_access.ChannelAccess.{ChannelAccess}
+use Rattle.channel.specs.declared.get_channel_access.ChannelAccessMode.{ChannelAccessMode}
+use Rattle.channel.specs.declared.get_channel_access.ChannelPrivilegeLevel.{ChannelPrivilegeLevel}
+use Rattle.channel.specs.declared.set_channel_access.ChannelSettings.{ChannelSettings}
+use Rattle.channel.proofs.get_channel_access.Laws.{limit-back, limit-unknown, mode-back, mode-unknown}
+use Rattle.layouts.specs.Layouts.{accessLayout, accessNumbers, accessRecord, isSet, limitNumber, modeNumber, settingsLayout, settingsRecord}
+
+-- a flag is itself again
+flag-back : (b : Bool) → isSet (boolByte b) ≡ b
+flag-back true = refl
+flag-back false = refl
+
+-- "mode; .. limit": a record that has a layout is the record of that layout.
+pub access-record-back : (a : ChannelAccess) (s : List ℕ) → accessLayout a ≡ accepted s → accessRecord s ≡ a
+access-record-back a s e = go (modeField (a .«access_mode»)) (limitField (a .«privilege_level_limit»)) refl refl e
+  where
+    go : (x y : Outcome ℕ) → modeField (a .«access_mode») ≡ x → limitField (a .«privilege_level_limit») ≡ y
+        → (x >>= λ m. y >>= λ l. accepted (m ∷ boolByte (a .«alerting_disabled») ∷ boolByte (a .«per_msg_auth_disabled») ∷ boolByte (a .«user_level_auth_disabled») ∷ l ∷ [])) ≡ accepted s
+        → accessRecord s ≡ a
+    go (refused n v) y p q e = absurd (apart e)
+    go (accepted m) (refused n v) p q e = absurd (apart e)
+    go (accepted m) (accepted l) p q e =
+        let z : _≡_ {A = List ℕ} (m ∷ boolByte (a .«alerting_disabled») ∷ boolByte (a .«per_msg_auth_disabled») ∷ boolByte (a .«user_level_auth_disabled») ∷ l ∷ []) s = cc in
+        rw (← z) (simp (mode-back (a .«access_mode») m p .1, limit-back (a .«privilege_level_limit») l q .1, flag-back))
+
+-- Any number of a mode or limit is its number again.
+
+mode-number : (n : ℕ) → modeNumber (modeOf n) ≡ n
+mode-number zero = refl
+mode-number (suc zero) = refl
+mode-number (suc (suc zero)) = refl
+mode-number (suc (suc (suc zero))) = refl
+mode-number (suc (suc (suc (suc n)))) = ap modeNumber (mode-unknown (suc (suc (suc (suc n)))) (omega arith))
+
+limit-number : (n : ℕ) → limitNumber (limitOf n) ≡ n
+limit-number zero = refl
+limit-number (suc zero) = refl
+limit-number (suc (suc zero)) = refl
+limit-number (suc (suc (suc zero))) = refl
+limit-number (suc (suc (suc (suc zero)))) = refl
+limit-number (suc (suc (suc (suc (suc zero))))) = refl
+limit-number (suc (suc (suc (suc (suc (suc n)))))) = ap limitNumber (limit-unknown (suc (suc (suc (suc (suc (suc n)))))) (omega arith))
+
+-- the five bytes from byte `at` on, each flag as 0 or 1
+abbrev pub told : ℕ → List ℕ → List ℕ
+told at s = byte at s ∷ boolByte (isSet (byte (at + 1) s)) ∷ boolByte (isSet (byte (at + 2) s)) ∷ boolByte (isSet (byte (at + 3) s)) ∷ byte (at + 4) s ∷ []
+
+-- Ten bytes, taken as settings and laid out again, are the same bytes, each flag as 0 or 1.
+pub settings-back : (s : List ℕ) → settingsLayout (settingsRecord s) ≡ told 0 s ++ told 5 s
+settings-back s = simp (mode-number, limit-number, getD-drop)
+
+-- the second five bytes are those behind the first
+pub halves : (s : List ℕ) {first second : ChannelAccess} → first ≡ accessRecord s → second ≡ accessRecord (byte 5 s ∷ byte 6 s ∷ byte 7 s ∷ byte 8 s ∷ byte 9 s ∷ [])
+    → record { «non_volatile» = first; volatile = second } ≡ settingsRecord s
+halves s e f = simp (e, f, getD-drop)
