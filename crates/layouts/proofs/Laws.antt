@@ -1,22 +1,26 @@
 -- Laws of the layouts: what C is given comes back as it was.
 use mathlib.Core.Bool.{Bool, true, false, not}
 use mathlib.Core.List.{List, [], _∷_, _++_}
-use mathlib.Core.Path.{_≡_, refl, ap}
+use mathlib.Core.Path.{_≡_, refl, sym, ap}
 use mir.Val.{boolByte}
 use Prim.Native.Nat.{ℕ, zero, suc, _+_}
 use native.Mathlib.Omega.{arith}
-use lib.ListN.{drop}
+use lib.ListN.{length}
 use lib.Seq.{getD-drop}
 use Rattle.base.specs.Choice.{_=?_}
 use Rattle.base.specs.Field.{byte}
 use Rattle.base.specs.Outcome.{Outcome, accepted, refused, _>>=_}
-use Rattle.base.proofs.Outcome.{apart}
+use Rattle.base.specs.Written.{Writes, written, lengthOf}
+use Rattle.base.specs.declared.refusal.Refusal.{Refusal}
+use Rattle.base.specs.declared.written.Written.the-variants.{Length, Refused}
+use Rattle.base.proofs.Outcome.{Only, apart}
+use Rattle.base.proofs.written.Laws.{filled}
 use Rattle.channel.specs.GetChannelAccess.{limitField, limitOf, modeField, modeOf}
 use Rattle.channel.specs.declared.get_channel_access.ChannelAccess.{ChannelAccess}
 use Rattle.channel.specs.declared.get_channel_access.ChannelAccessMode.{ChannelAccessMode}
 use Rattle.channel.specs.declared.get_channel_access.ChannelPrivilegeLevel.{ChannelPrivilegeLevel}
 use Rattle.channel.specs.declared.set_channel_access.ChannelSettings.{ChannelSettings}
-use Rattle.channel.proofs.get_channel_access.Laws.{limit-back, limit-unknown, mode-back, mode-unknown}
+use Rattle.channel.proofs.get_channel_access.Laws.{access-only, first, limit-back, limit-unknown, mode-back, mode-unknown}
 use Rattle.layouts.specs.Layouts.{accessLayout, accessNumbers, accessRecord, isSet, limitNumber, modeNumber, settingsLayout, settingsRecord}
 
 -- a flag is itself again
@@ -36,6 +40,37 @@ access-record-back a s e = go (modeField (a .«access_mode»)) (limitField (a .�
     go (accepted m) (accepted l) p q e =
         let z : _≡_ {A = List ℕ} (m ∷ boolByte (a .«alerting_disabled») ∷ boolByte (a .«per_msg_auth_disabled») ∷ boolByte (a .«user_level_auth_disabled») ∷ l ∷ []) s = cc in
         rw (← z) (simp (mode-back (a .«access_mode») m p .1, limit-back (a .«privilege_level_limit») l q .1, flag-back))
+
+-- What the layout's writer leaves in five bytes, and what it says where it leaves nothing.
+
+abbrev Five : Outcome (List ℕ) → Type 0
+Five (accepted s) = length s ≡ 5
+Five (refused n v) = _≡_ {A = Outcome (List ℕ)} (refused n v) (refused 9 [])
+
+five : (a : ChannelAccess) → Five (accessLayout a)
+five a = go (modeField (a .«access_mode»)) (limitField (a .«privilege_level_limit»)) (λ m l. first m (a .«user_level_auth_disabled») (a .«per_msg_auth_disabled») (a .«alerting_disabled») ∷ l ∷ []) (access-only a)
+  where
+    go : (x y : Outcome ℕ) (bytes : ℕ → ℕ → List ℕ) → Only 9 (x >>= λ m. y >>= λ l. accepted (bytes m l))
+        → Five (x >>= λ m. y >>= λ l. accepted (m ∷ boolByte (a .«alerting_disabled») ∷ boolByte (a .«per_msg_auth_disabled») ∷ boolByte (a .«user_level_auth_disabled») ∷ l ∷ []))
+    go (refused n v) y bytes o = cc
+    go (accepted m) (refused n v) bytes o = cc
+    go (accepted m) (accepted l) bytes o = refl
+
+pub laid : (a : ChannelAccess) {n : ℕ} {after : List ℕ} → Writes (accessLayout a) (Length n) (0 ∷ 0 ∷ 0 ∷ 0 ∷ 0 ∷ []) after → accessLayout a ≡ accepted after
+unfolding written lengthOf
+laid a w = go (accessLayout a) (five a) w
+  where
+    go : (x : Outcome (List ℕ)) → Five x → {n : ℕ} {after : List ℕ} → Writes x (Length n) (0 ∷ 0 ∷ 0 ∷ 0 ∷ 0 ∷ []) after → x ≡ accepted after
+    go (accepted s) t w = rw (filled w t)
+    go (refused n v) t w = absurd (apart (sym (w .answers)))
+
+pub not-laid : (a : ChannelAccess) {r : Refusal} {after : List ℕ} → Writes (accessLayout a) (Refused r) (0 ∷ 0 ∷ 0 ∷ 0 ∷ 0 ∷ []) after → accessLayout a ≡ refused 9 []
+unfolding written lengthOf
+not-laid a w = go (accessLayout a) (five a) w
+  where
+    go : (x : Outcome (List ℕ)) → Five x → {r : Refusal} {after : List ℕ} → Writes x (Refused r) (0 ∷ 0 ∷ 0 ∷ 0 ∷ 0 ∷ []) after → x ≡ refused 9 []
+    go (accepted s) t w = absurd (apart (rw t at (w .answers)))
+    go (refused n v) t w = t
 
 -- Any number of a mode or limit is its number again.
 

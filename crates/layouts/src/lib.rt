@@ -53,18 +53,10 @@ pub fn set_access_layout(command: SetChannelAccess, out: &mut [u8]) -> Written
     ensures { λ r. ⌜ Writes (setAccessLayout command) r (now (out .entry)) (now (out .exit)) ⌝ }
 {
     let channel = command.channel;
-    let mode_pair = command.mode_pair;
-    let limit_pair = command.limit_pair;
+    let mode = command.mode_pair;
+    let limit = command.limit_pair;
     let access = command.access;
-    let mode = access.access_mode;
-    let limit = access.privilege_level_limit;
     let FieldAnswer::Number(channel) = channel.field() else {
-        return Written::Refused(Refusal::NoForm);
-    };
-    let FieldAnswer::Number(mode_pair) = mode_pair.field() else {
-        return Written::Refused(Refusal::NoForm);
-    };
-    let FieldAnswer::Number(limit_pair) = limit_pair.field() else {
         return Written::Refused(Refusal::NoForm);
     };
     let FieldAnswer::Number(mode) = mode.field() else {
@@ -73,19 +65,11 @@ pub fn set_access_layout(command: SetChannelAccess, out: &mut [u8]) -> Written
     let FieldAnswer::Number(limit) = limit.field() else {
         return Written::Refused(Refusal::NoForm);
     };
-    place(
-        &[
-            channel,
-            mode_pair,
-            limit_pair,
-            mode,
-            access.alerting_disabled as u8,
-            access.per_msg_auth_disabled as u8,
-            access.user_level_auth_disabled as u8,
-            limit,
-        ],
-        out,
-    )
+    let mut record = [0u8; 5];
+    let Written::Length(_) = access_layout(access, &mut record) else {
+        return Written::Refused(Refusal::NoForm);
+    };
+    join(&[channel, mode, limit], &record, out)
 }
 
 fn mode_number(mode: ChannelAccessMode) -> u8
@@ -134,7 +118,11 @@ pub fn settings_layout(settings: ChannelSettings, out: &mut [u8]) -> Written
 {
     let non_volatile = settings.non_volatile;
     let volatile = settings.volatile;
-    join(&access_numbers(non_volatile), &access_numbers(volatile), out)
+    join(
+        &access_numbers(non_volatile),
+        &access_numbers(volatile),
+        out,
+    )
 }
 
 pub fn settings_record(bytes: &[u8; 10]) -> ChannelSettings
