@@ -36,10 +36,10 @@ mode-unknown n h = List·getD-eq-default modes (Mode.Unknown n) h
 pub limit-unknown : (n : ℕ) → 6 ≤ n → limitOf n ≡ Level.Unknown n
 limit-unknown n h = List·getD-eq-default limits (Level.Unknown n) h
 
-mode-given : (n : ℕ) → n ≤ 7 → modeField (modeOf n) ≡ accepted n
+pub mode-given : (n : ℕ) → n ≤ 7 → modeField (modeOf n) ≡ accepted n
 mode-given n h = below 8 (λ n. modeField (modeOf n)) accepted refl n (omega arith)
 
-limit-given : (n : ℕ) → n ≤ 15 → limitField (limitOf n) ≡ accepted n
+pub limit-given : (n : ℕ) → n ≤ 15 → limitField (limitOf n) ≡ accepted n
 limit-given n h = below 16 (λ n. limitField (limitOf n)) accepted refl n (omega arith)
 
 pub mode-back : (m : ChannelAccessMode) (n : ℕ) → modeField m ≡ accepted n → (n < 8) × (modeOf n ≡ m)

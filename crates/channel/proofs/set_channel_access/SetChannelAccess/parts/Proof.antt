@@ -1,8 +1,9 @@
 use borrow.Author.Needs.{needs}
-use mathlib.Core.Path.{_≡_, sym, _∙_, ap}
+use mathlib.Core.Path.{sym, _∙_, ap}
 use lib.ListN.{getD}
 use Rattle.base.specs.Field.{saidField}
-use Rattle.channel.proofs.set_channel_access.Laws.{not-shown, pair-small, set-pair, shown, shown-small}
+use Rattle.channel.proofs.set_channel_access.Laws.{not-shown, pair-back, set-pair, shown, shown-two}
+use native.Mathlib.Omega.{arith}
 use Rattle.channel.proofs.set_channel_access.SetChannelAccess.parts.Statement.{statement}
 use Rattle.channel.proofs.set_channel_access.SetChannelAccess.parts.Tie as tie
 
@@ -34,11 +35,11 @@ returns-4 c =
     let f = m .before .before in
     let self = f .before .before .args .self in
     let e = shown (self .access) (rw (c .enum-told3 .given .1) at (w .write .ensures)) in
-    let small = shown-small (self .access) e in
-    let mode = pair-small (self .«mode_pair») (m .mode .given .0 .0) (sym (f .field .ensures) ∙ ap saidField (m .mode .given .1)) in
-    let limit = pair-small (self .«limit_pair») (k .limit .given .0 .0) (sym (l .field2 .ensures) ∙ ap saidField (k .limit .given .1)) in
+    let small = shown-two (self .access) e in
+    let mode = pair-back (self .«mode_pair») (m .mode .given .0 .0) (sym (f .field .ensures) ∙ ap saidField (m .mode .given .1)) .0 in
+    let limit = pair-back (self .«limit_pair») (k .limit .given .0 .0) (sym (l .field2 .ensures) ∙ ap saidField (k .limit .given .1)) .0 in
     rw
-    (← f .field .ensures, m .mode .given .1, ← l .field2 .ensures, k .limit .given .1, e, set-pair (m .mode .given .0 .0) (getD (w .write .last .1 .0) 0 0) mode (small .0), set-pair (k .limit .given .0 .0) (getD (w .write .last .1 .0) 1 0) limit (small .1))
+    (← f .field .ensures, m .mode .given .1, ← l .field2 .ensures, k .limit .given .1, e, set-pair (m .mode .given .0 .0) (getD (w .write .last .1 .0) 0 0) mode (small .1), set-pair (k .limit .given .0 .0) (getD (w .write .last .1 .0) 1 0) limit (let low = small .2 in omega arith))
 
 pub parts-spec : {M : Type 1} → statement M
 parts-spec =

@@ -17,72 +17,63 @@ returns-2 c =
 
 returns-3 : tie.Need-returns-3
 returns-3 c =
-    let f = c .before .before in
-    let b = f .before .before in
-    let k = b .before .before .before in
+    let m = c .before .before in
+    let k = m .before .before .before in
     let n = k .before .before in
     let s = n .before .before .before .before .args .request .now in
-    simp
-    (eq-eqb (length s) 3 (omega arith), ← n .new .ensures, k .channel .given .1, ← b .bits .ensures, ← f .before .from .ensures, ← f .field .ensures, c .enum-told3 .given .1)
+    simp (eq-eqb (length s) 3 (omega arith), ← n .new .ensures, k .channel .given .1, ← m .of .ensures, c .enum-told2 .given .1)
 
 returns-4 : tie.Need-returns-4
 returns-4 c =
-    let g = c .before .before in
-    let d = g .before .before in
-    let t = d .before .before in
-    let f = t .before .before in
-    let b = f .before .before in
-    let k = b .before .before .before in
+    let l = c .before .before in
+    let p = l .before .before .before in
+    let m = p .before .before in
+    let k = m .before .before .before in
     let n = k .before .before in
     let s = n .before .before .before .before .args .request .now in
     simp
-    (eq-eqb (length s) 3 (omega arith), ← n .new .ensures, k .channel .given .1, ← b .bits .ensures, ← f .before .from .ensures, ← f .field .ensures, t .enum-told2 .given .1, ← d .bits2 .ensures, ← g .before .from2 .ensures, ← g .field2 .ensures, c .enum-told5 .given .1)
+    (eq-eqb (length s) 3 (omega arith), ← n .new .ensures, k .channel .given .1, ← m .of .ensures, p .mode-pair .given .1, ← l .of2 .ensures, c .enum-told3 .given .1)
 
 returns-5 : tie.Need-returns-5
 returns-5 c =
-    let u = c .before .before .before in
-    let g = u .before .before in
-    let d = g .before .before in
-    let t = d .before .before in
-    let f = t .before .before in
-    let b = f .before .before in
-    let k = b .before .before .before in
+    let b = c .before in
+    let q = b .before .before .before in
+    let l = q .before .before in
+    let p = l .before .before .before in
+    let m = p .before .before in
+    let k = m .before .before .before in
     let n = k .before .before in
     let s = n .before .before .before .before .args .request .now in
     simp
-    (eq-eqb (length s) 3 (omega arith), ← n .new .ensures, k .channel .given .1, ← b .bits .ensures, ← f .before .from .ensures, ← f .field .ensures, t .enum-told2 .given .1, ← d .bits2 .ensures, ← g .before .from2 .ensures, ← g .field2 .ensures, u .enum-told4 .given .1, ← c .before .bits3 .ensures, le-ltb (c .before .bits3 .result) 0 (omega arith), lt-ltb 0 (c .before .bits3 .result) (omega arith))
+    (eq-eqb (length s) 3 (omega arith), ← n .new .ensures, k .channel .given .1, ← m .of .ensures, p .mode-pair .given .1, ← l .of2 .ensures, q .limit-pair .given .1, ← b .bits .ensures, le-ltb (b .bits .result) 0 (omega arith), lt-ltb 0 (b .bits .result) (omega arith))
 
 returns-6 : tie.Need-returns-6
 returns-6 c =
-    let p = c .before .before in
-    let z = p .before .before .before in
-    let u = z .before .before in
-    let g = u .before .before in
-    let d = g .before .before in
-    let t = d .before .before in
-    let f = t .before .before in
-    let b = f .before .before in
-    let k = b .before .before .before in
+    let a = c .before .before in
+    let b = a .before .before .before in
+    let q = b .before .before .before in
+    let l = q .before .before in
+    let p = l .before .before .before in
+    let m = p .before .before in
+    let k = m .before .before .before in
     let n = k .before .before in
     let s = n .before .before .before .before .args .request .now in
     simp
-    (eq-eqb (length s) 3 (omega arith), ← n .new .ensures, k .channel .given .1, ← b .bits .ensures, ← f .before .from .ensures, ← f .field .ensures, t .enum-told2 .given .1, ← d .bits2 .ensures, ← g .before .from2 .ensures, ← g .field2 .ensures, u .enum-told4 .given .1, ← z .bits3 .ensures, le-ltb (z .bits3 .result) 0 (omega arith), le-ltb 0 (z .bits3 .result) (omega arith), ← rest s (p .parse .ensures), c .enum-told6 .given .1)
+    (eq-eqb (length s) 3 (omega arith), ← n .new .ensures, k .channel .given .1, ← m .of .ensures, p .mode-pair .given .1, ← l .of2 .ensures, q .limit-pair .given .1, ← b .bits .ensures, le-ltb (b .bits .result) 0 (omega arith), le-ltb 0 (b .bits .result) (omega arith), ← rest s (a .parse .ensures), c .enum-told4 .given .1)
 
 returns-7 : tie.Need-returns-7
 returns-7 c =
-    let p = c .before .before .before in
-    let z = p .before .before .before in
-    let u = z .before .before in
-    let g = u .before .before in
-    let d = g .before .before in
-    let t = d .before .before in
-    let f = t .before .before in
-    let b = f .before .before in
-    let k = b .before .before .before in
+    let a = c .before .before .before in
+    let b = a .before .before .before in
+    let q = b .before .before .before in
+    let l = q .before .before in
+    let p = l .before .before .before in
+    let m = p .before .before in
+    let k = m .before .before .before in
     let n = k .before .before in
     let s = n .before .before .before .before .args .request .now in
     simp
-    (eq-eqb (length s) 3 (omega arith), ← n .new .ensures, k .channel .given .1, ← b .bits .ensures, ← f .before .from .ensures, ← f .field .ensures, t .enum-told2 .given .1, ← d .bits2 .ensures, ← g .before .from2 .ensures, ← g .field2 .ensures, u .enum-told4 .given .1, ← z .bits3 .ensures, le-ltb (z .bits3 .result) 0 (omega arith), le-ltb 0 (z .bits3 .result) (omega arith), ← rest s (p .parse .ensures), c .before .access .given .1)
+    (eq-eqb (length s) 3 (omega arith), ← n .new .ensures, k .channel .given .1, ← m .of .ensures, p .mode-pair .given .1, ← l .of2 .ensures, q .limit-pair .given .1, ← b .bits .ensures, le-ltb (b .bits .result) 0 (omega arith), le-ltb 0 (b .bits .result) (omega arith), ← rest s (a .parse .ensures), c .before .access .given .1)
 
 pub read-spec : {M : Type 1} → statement M
 read-spec =
@@ -98,11 +89,7 @@ read-spec =
     (search needs)
     (search needs)
     (search needs)
-    (search needs)
-    (search needs)
     returns-3
-    (search needs)
-    (search needs)
     (search needs)
     (search needs)
     (search needs)
