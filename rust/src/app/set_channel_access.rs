@@ -241,15 +241,23 @@ mod tests {
         }
     }
 
-    /// Exactly what a command writes is read, and is written again.
+    /// Exactly what a command writes is read: as a Get's response below the pairs. It is written again.
     fn read_strictly(request: [u8; 3]) {
         let [channel, mode, limit] = request;
-        let legal =
-            Channel::new(channel).is_ok() && mode >> 6 != 3 && limit >> 6 != 3 && limit & 0x30 == 0;
-        let written = SetChannelAccess::read(&request).and_then(Message::try_from);
-        let written = written.map(|message| message.data().to_vec());
-        let expected = legal.then_some(request.to_vec());
-        assert_eq!(written, expected.ok_or(Error::NotARequest));
+        let read = SetChannelAccess::read(&request);
+        let channel = Channel::new(channel);
+        if channel.is_err() || mode >> 6 == 3 || limit >> 6 == 3 || limit & 0x30 != 0 {
+            assert_eq!(read, Err(Error::NotARequest));
+            return;
+        }
+        let expected = SetChannelAccess {
+            channel: channel.unwrap(),
+            mode_pair: (mode >> 6).into(),
+            limit_pair: (limit >> 6).into(),
+            access: ChannelAccess::parse(&[mode, limit]).unwrap(),
+        };
+        assert_eq!(read.as_ref(), Ok(&expected));
+        assert_eq!(Message::try_from(expected).unwrap().data(), request);
     }
 
     #[test]
