@@ -94,8 +94,8 @@ impl SetChannelAccess {
         })
     }
 
-    /// The settings after the command, those of whichever channel. `Unknown` of a number that has a name becomes the named
-    /// one in them, also where it is left; no Get shows it.
+    /// The settings after the command, of whichever channel they are: a part that is marked [`AccessPair::Leave`] stays.
+    /// In settings, `Unknown` of a number that has a name counts as the named value; no Get shows it.
     ///
     /// Refuses [`Error::NoForm`] where the command has no form as bytes: a pair is [`AccessPair::Reserved`], or its mode or
     /// limit is one that no Get shows.
@@ -106,7 +106,8 @@ impl SetChannelAccess {
             .map(ChannelSettings::from_record)
     }
 
-    /// The access record for C. `Unknown(2)` has to be refused here: C has only its number, which is that of another mode.
+    /// The access record for C. `Unknown` of a number that has a name is refused here: C is given the number alone, and would
+    /// take it for the named value.
     fn access_record(&self) -> Result<[u8; ACCESS], Error> {
         let access = self.access.to_record();
         if ChannelAccess::from_record(access) != self.access {
