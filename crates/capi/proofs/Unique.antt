@@ -134,3 +134,12 @@ ghj-suite-of-unique κs a ok z z′ w w′ q q′ = (both q q′, refl)
 
 pub ghj-suite-step-unique : Unique p.table.ghj_suite_step.Kinds.ps p.table.ghj_suite_step.Kinds.r p.table.ghj_suite_step.Reads.Asked p.table.ghj_suite_step.Reads.Learnt
 ghj-suite-step-unique κs a ok z z′ w w′ q q′ = stepper q q′
+
+pub ghj-set-access-request-unique : Unique p.settings.ghj_set_access_request.Kinds.ps p.settings.ghj_set_access_request.Kinds.r p.settings.ghj_set_access_request.Reads.Asked p.settings.ghj_set_access_request.Reads.Learnt
+ghj-set-access-request-unique κs a ok z z′ w w′ q q′ = coder5 q q′
+
+pub ghj-set-access-unique : Unique p.settings.ghj_set_access.Kinds.ps p.settings.ghj_set_access.Kinds.r p.settings.ghj_set_access.Reads.Asked p.settings.ghj_set_access.Reads.Learnt
+ghj-set-access-unique κs a ok z z′ w w′ q q′ = coder q q′
+
+pub ghj-set-access-apply-unique : Unique p.settings.ghj_set_access_apply.Kinds.ps p.settings.ghj_set_access_apply.Kinds.r p.settings.ghj_set_access_apply.Reads.Asked p.settings.ghj_set_access_apply.Reads.Learnt
+ghj-set-access-apply-unique κs a ok z z′ w w′ q q′ = coder5 q q′

@@ -1,10 +1,8 @@
 -- The number that a C function returns.
 use Prim.Native.Nat.{ℕ, _+_, _*_, _^_}
 use mathlib.Core.Path.{_≡_}
-use mathlib.Core.Bool.{Bool, not}
 use mathlib.Core.List.{List}
 use mathlib.Core.Option.{Option, none, some}
-use Rattle.base.specs.Choice.{_=?_}
 use Rattle.base.specs.Field.{byte}
 use Rattle.base.specs.Outcome.{Outcome, accepted, refused}
 use Rattle.base.specs.Verdict.{recordOf}
@@ -45,10 +43,6 @@ abbrev pub orNone : {A : Type 0} → (A → ℕ) → Outcome (Option A) → Outc
 orNone number (accepted (some a)) = accepted (number a)
 orNone number (accepted none) = accepted noneBit
 orNone number (refused n carried) = refused n carried
-
--- a flag that C gives: any number but 0 sets it
-abbrev pub isSet : ℕ → Bool
-isSet n = not (n =? 0)
 
 -- The promise of a C function by which a collector takes an answer: its number, and the collector before and after.
 pub record Takes (taken : Outcome Collector) (number : ℕ) (before after : Collector) : Type 0 where

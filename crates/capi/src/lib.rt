@@ -36,6 +36,7 @@ use suites::get_channel_cipher_suites::suite_numbers;
 
 pub mod display;
 pub mod requests;
+pub mod settings;
 pub mod strength;
 pub mod table;
 

@@ -1,8 +1,9 @@
 // The table of suites, and the reading of a list one step at a time.
 ghost use mathlib.Core.Path.{_≡_};
 ghost use Rattle.base.specs.Outcome.{accepted};
-ghost use Rattle.capi.specs.Number.{CodesAny, code, isSet, orNone};
+ghost use Rattle.capi.specs.Number.{CodesAny, code, orNone};
 ghost use Rattle.capi.specs.Table.{Steps, algorithmsOf, suiteNumber};
+ghost use Rattle.layouts.specs.Layouts.{isSet};
 ghost use Rattle.suites.specs.GetChannelCipherSuites.{row, saidSuite, stepAt, suiteFor};
 use crate::NONE;
 use crate::code;

@@ -18,6 +18,8 @@ use Rattle.channel.specs.declared.set_channel_access.AccessPair.the-vari
 use Rattle.channel.specs.declared.set_channel_access.ChannelSettings.{ChannelSettings}
 use Rattle.channel.specs.declared.set_channel_access.CommandAnswer.{CommandAnswer}
 use Rattle.channel.specs.declared.set_channel_access.CommandAnswer.the-variants.{Command, Refused}
+use Rattle.channel.specs.declared.set_channel_access.PairAnswer.{PairAnswer}
+use Rattle.channel.specs.declared.set_channel_access.PairAnswer.the-variants as Pair
 use Rattle.channel.specs.declared.set_channel_access.PartsAnswer.{PartsAnswer}
 use Rattle.channel.specs.declared.set_channel_access.PartsAnswer.the-variants as Parts
 use Rattle.channel.specs.declared.set_channel_access.SetChannelAccess.{SetChannelAccess}
@@ -39,6 +41,11 @@ abbrev pub saidParts : PartsAnswer → Outcome (List ℕ)
 saidParts (Parts.Parts parts) = accepted (parts .mode ∷ parts .limit ∷ [])
 saidParts Parts.NoForm = refused 9 []
 
+-- each case's outcome: 9 NoForm
+abbrev pub saidPair : PairAnswer → Outcome AccessPair
+saidPair (Pair.Pair pair) = accepted pair
+saidPair Pair.NoForm = refused 9 []
+
 -- The pairs, bits 7:6 of bytes 1 and 2.
 
 -- from 0 up: "00 leave, 01 set non-volatile, 10 set volatile"
@@ -55,6 +62,12 @@ pairField Leave = accepted 0
 pairField NonVolatile = accepted 1
 pairField Volatile = accepted 2
 pairField Reserved = refused 9 []
+
+-- bits 7:6 of a byte, which are not 11
+abbrev pub pairIn : ℕ → Outcome AccessPair
+pairIn byte = do
+  number ← pairField (pairOf (bits 6 2 byte))
+  accepted (pairOf (bits 6 2 byte))
 
 -- The command.
 
@@ -83,19 +96,13 @@ commandBytes c = do
   parts ← partsBytes c
   accepted (channel ∷ parts)
 
--- a pair that a command can have
-abbrev pub legal : AccessPair → Outcome AccessPair
-legal pair = do
-  number ← pairField pair
-  accepted pair
-
 -- "a request reader turns every fault into 10"; bits 5:4 of byte 2 are written 0
 abbrev pub commandOf : List ℕ → Outcome SetChannelAccess
 commandOf request =
     if length request =? 3 then faultsAs 10 (do
       channel ← channelOf (byte 0 request)
-      modePair ← legal (pairOf (bits 6 2 (byte 1 request)))
-      limitPair ← legal (pairOf (bits 6 2 (byte 2 request)))
+      modePair ← pairIn (byte 1 request)
+      limitPair ← pairIn (byte 2 request)
       reserved ← within 0 0 (bits 4 2 (byte 2 request))
       access ← accessOf (drop 1 request)
       accepted (command channel modePair limitPair access))

@@ -2,7 +2,7 @@
 ghost use mathlib.Core.Path.{_≡_};
 ghost use Rattle.base.specs.Field.{saidField};
 ghost use Rattle.base.specs.Written.{Writes};
-ghost use Rattle.channel.specs.SetChannelAccess.{applied, changed, chosen, commandBytes, commandFor, commandOf, pairField, pairOf, partsBytes, saidCommand, saidParts, saidSettings, sets};
+ghost use Rattle.channel.specs.SetChannelAccess.{applied, changed, chosen, commandBytes, commandFor, commandOf, pairField, pairIn, pairOf, partsBytes, saidCommand, saidPair, saidParts, saidSettings, sets};
 use crate::get_channel_access::AccessAnswer;
 use crate::get_channel_access::ChannelAccess;
 use crate::get_channel_access::ChannelAccessType;
@@ -20,6 +20,11 @@ pub enum AccessPair {
     NonVolatile,
     Volatile,
     Reserved,
+}
+
+enum PairAnswer {
+    Pair(AccessPair),
+    NoForm,
 }
 
 impl AccessPair {
@@ -45,6 +50,17 @@ impl AccessPair {
         }
     }
 
+    // Bits 7:6 of a byte of a request.
+    fn of(byte: u8) -> PairAnswer
+        ensures { λ r. ⌜ saidPair r ≡ pairIn byte ⌝ }
+    {
+        let pair = AccessPair::from(bits(byte, 6, 2));
+        match pair.field() {
+            FieldAnswer::Number(_) => PairAnswer::Pair(pair),
+            FieldAnswer::NoForm => PairAnswer::NoForm,
+        }
+    }
+
     fn sets(self, kind: ChannelAccessType) -> bool
         ensures { λ r. ⌜ r ≡ sets self kind ⌝ }
     {
@@ -62,7 +78,12 @@ impl AccessPair {
         }
     }
 
-    fn chosen(self, kind: ChannelAccessType, set: ChannelAccess, before: ChannelAccess) -> ChannelAccess
+    fn chosen(
+        self,
+        kind: ChannelAccessType,
+        set: ChannelAccess,
+        before: ChannelAccess,
+    ) -> ChannelAccess
         ensures { λ r. ⌜ r ≡ chosen self kind set before ⌝ }
     {
         if self.sets(kind) {
@@ -87,12 +108,12 @@ pub enum CommandAnswer {
 }
 
 // Bytes 1 and 2 of a command.
-pub struct Parts {
-    pub mode: u8,
-    pub limit: u8,
+struct Parts {
+    mode: u8,
+    limit: u8,
 }
 
-pub enum PartsAnswer {
+enum PartsAnswer {
     Parts(Parts),
     NoForm,
 }
@@ -175,12 +196,10 @@ impl SetChannelAccess {
         let ChannelAnswer::Channel(channel) = Channel::new(request[0]) else {
             return CommandAnswer::Refused(Refusal::NotARequest);
         };
-        let mode_pair = AccessPair::from(bits(request[1], 6, 2));
-        let FieldAnswer::Number(_) = mode_pair.field() else {
+        let PairAnswer::Pair(mode_pair) = AccessPair::of(request[1]) else {
             return CommandAnswer::Refused(Refusal::NotARequest);
         };
-        let limit_pair = AccessPair::from(bits(request[2], 6, 2));
-        let FieldAnswer::Number(_) = limit_pair.field() else {
+        let PairAnswer::Pair(limit_pair) = AccessPair::of(request[2]) else {
             return CommandAnswer::Refused(Refusal::NotARequest);
         };
         if bits(request[2], 4, 2) != 0 {

@@ -1,14 +1,24 @@
--- Three records as bytes: include/ghjalvestru.h has the layouts.
+-- Records as bytes: include/ghjalvestru.h has the layouts.
 use Prim.Native.Nat.{ℕ}
 use mir.Val.{boolByte}
+use mathlib.Core.Bool.{Bool, not}
 use mathlib.Core.List.{List, [], _∷_, _++_}
+use lib.ListN.{drop}
 use Rattle.auth.specs.declared.get_channel_authentication_capabilities.ChannelAuthenticationCapabilities.{ChannelAuthenticationCapabilities}
+use Rattle.base.specs.Choice.{_=?_}
 use Rattle.base.specs.Connection.{channelField}
 use Rattle.base.specs.Field.{byte}
 use Rattle.base.specs.Little.{littleBytes}
 use Rattle.base.specs.Outcome.{Outcome, accepted, _>>=_}
-use Rattle.channel.specs.GetChannelAccess.{limitField, modeField}
+use Rattle.channel.specs.GetChannelAccess.{limitField, limitOf, modeField, modeOf}
+use Rattle.channel.specs.SetChannelAccess.{pairField}
 use Rattle.channel.specs.declared.get_channel_access.ChannelAccess.{ChannelAccess}
+use Rattle.channel.specs.declared.get_channel_access.ChannelAccessMode.{ChannelAccessMode}
+use Rattle.channel.specs.declared.get_channel_access.ChannelAccessMode.the-variants as Mode
+use Rattle.channel.specs.declared.get_channel_access.ChannelPrivilegeLevel.{ChannelPrivilegeLevel}
+use Rattle.channel.specs.declared.get_channel_access.ChannelPrivilegeLevel.the-variants as Level
+use Rattle.channel.specs.declared.set_channel_access.ChannelSettings.{ChannelSettings}
+use Rattle.channel.specs.declared.set_channel_access.SetChannelAccess.{SetChannelAccess}
 use Rattle.media.specs.Media.{mediumField, protocolField, sessionField}
 use Rattle.info.specs.declared.get_channel_info.ChannelInfo.{ChannelInfo}
 
@@ -18,6 +28,60 @@ accessLayout a = do
   mode ← modeField (a .«access_mode»)
   limit ← limitField (a .«privilege_level_limit»)
   accepted (mode ∷ boolByte (a .«alerting_disabled») ∷ boolByte (a .«per_msg_auth_disabled») ∷ boolByte (a .«user_level_auth_disabled») ∷ limit ∷ [])
+
+-- a flag that C gives: any number but 0 sets it
+abbrev pub isSet : ℕ → Bool
+isSet n = not (n =? 0)
+
+-- the same back, of any five bytes: mode and limit by the whole byte
+abbrev pub accessRecord : List ℕ → ChannelAccess
+accessRecord bytes =
+    record {
+      «access_mode» = modeOf (byte 0 bytes);
+      «alerting_disabled» = isSet (byte 1 bytes);
+      «per_msg_auth_disabled» = isSet (byte 2 bytes);
+      «user_level_auth_disabled» = isSet (byte 3 bytes);
+      «privilege_level_limit» = limitOf (byte 4 bytes);
+    }
+
+-- channel; the pairs of mode and limit, "00 leave, 01 set non-volatile, 10 set volatile"; the access record. 9 where one has no form
+abbrev pub setAccessLayout : SetChannelAccess → Outcome (List ℕ)
+setAccessLayout c = do
+  channel ← channelField (c .channel)
+  modePair ← pairField (c .«mode_pair»)
+  limitPair ← pairField (c .«limit_pair»)
+  access ← accessLayout (c .access)
+  accepted (channel ∷ modePair ∷ limitPair ∷ access)
+
+-- a mode's number, of any mode: an unknown one is the number that it holds
+abbrev pub modeNumber : ChannelAccessMode → ℕ
+modeNumber Mode.Disabled = 0
+modeNumber Mode.PreBootOnly = 1
+modeNumber Mode.AlwaysAvailable = 2
+modeNumber Mode.Shared = 3
+modeNumber (Mode.Unknown n) = n
+
+-- the same for a limit
+abbrev pub limitNumber : ChannelPrivilegeLevel → ℕ
+limitNumber Level.Reserved = 0
+limitNumber Level.Callback = 1
+limitNumber Level.User = 2
+limitNumber Level.Operator = 3
+limitNumber Level.Administrator = 4
+limitNumber Level.Oem = 5
+limitNumber (Level.Unknown n) = n
+
+-- the access record of any access, also of one that has no form in a message
+abbrev pub accessNumbers : ChannelAccess → List ℕ
+accessNumbers a = modeNumber (a .«access_mode») ∷ boolByte (a .«alerting_disabled») ∷ boolByte (a .«per_msg_auth_disabled») ∷ boolByte (a .«user_level_auth_disabled») ∷ limitNumber (a .«privilege_level_limit») ∷ []
+
+-- "one channel's two settings": the record of the non-volatile ones, then that of the volatile ones
+abbrev pub settingsLayout : ChannelSettings → List ℕ
+settingsLayout s = accessNumbers (s .«non_volatile») ++ accessNumbers (s .volatile)
+
+-- the same back, of any ten bytes
+abbrev pub settingsRecord : List ℕ → ChannelSettings
+settingsRecord bytes = record { «non_volatile» = accessRecord bytes; volatile = accessRecord (drop 5 bytes) }
 
 -- channel; medium; protocol; session support; active sessions; vendor, four bytes, low first; two auxiliary bytes
 abbrev pub infoLayout : ChannelInfo → Outcome (List ℕ)

@@ -1,14 +1,20 @@
-// The records of three responses as bytes, a byte for each field: what the C functions give. include/ghjalvestru.h has the layouts.
+// Records as bytes, a byte for each field: what the C functions give and take. include/ghjalvestru.h has the layouts.
+ghost use mathlib.Core.Path.{_≡_};
 ghost use Rattle.base.specs.Outcome.{accepted};
 ghost use Rattle.base.specs.Written.{Writes};
-ghost use Rattle.layouts.specs.Layouts.{accessLayout, capabilitiesLayout, infoLayout};
+ghost use Rattle.layouts.specs.Layouts.{accessLayout, accessNumbers, accessRecord, capabilitiesLayout, infoLayout, limitNumber, modeNumber, setAccessLayout, settingsLayout, settingsRecord};
 use auth::get_channel_authentication_capabilities::ChannelAuthenticationCapabilities;
 use base::field::FieldAnswer;
 use base::little::bytes4;
 use base::refusal::Refusal;
 use base::written::Written;
+use base::written::join;
 use base::written::place;
 use channel::get_channel_access::ChannelAccess;
+use channel::get_channel_access::ChannelAccessMode;
+use channel::get_channel_access::ChannelPrivilegeLevel;
+use channel::set_channel_access::ChannelSettings;
+use channel::set_channel_access::SetChannelAccess;
 use info::get_channel_info::ChannelInfo;
 
 // Mode; alerting, per-message and user-level authentication DISABLED, 0 or 1 each; limit.
@@ -27,6 +33,107 @@ pub fn access_layout(access: ChannelAccess, out: &mut [u8]) -> Written
     let per_message = access.per_msg_auth_disabled as u8;
     let user_level = access.user_level_auth_disabled as u8;
     place(&[mode, alerting, per_message, user_level, limit], out)
+}
+
+// The same of any bytes: any number but 0 sets a flag, and mode and limit count whole.
+pub fn access_record(bytes: &[u8; 5]) -> ChannelAccess
+    ensures { λ r. ⌜ r ≡ accessRecord (now (bytes .entry)) ⌝ }
+{
+    ChannelAccess {
+        access_mode: ChannelAccessMode::from(bytes[0]),
+        alerting_disabled: bytes[1] != 0,
+        per_msg_auth_disabled: bytes[2] != 0,
+        user_level_auth_disabled: bytes[3] != 0,
+        privilege_level_limit: ChannelPrivilegeLevel::from(bytes[4]),
+    }
+}
+
+// Channel; the pair of the mode; the pair of the limit; the access record.
+pub fn set_access_layout(command: SetChannelAccess, out: &mut [u8]) -> Written
+    ensures { λ r. ⌜ Writes (setAccessLayout command) r (now (out .entry)) (now (out .exit)) ⌝ }
+{
+    let channel = command.channel;
+    let mode = command.mode_pair;
+    let limit = command.limit_pair;
+    let access = command.access;
+    let FieldAnswer::Number(channel) = channel.field() else {
+        return Written::Refused(Refusal::NoForm);
+    };
+    let FieldAnswer::Number(mode) = mode.field() else {
+        return Written::Refused(Refusal::NoForm);
+    };
+    let FieldAnswer::Number(limit) = limit.field() else {
+        return Written::Refused(Refusal::NoForm);
+    };
+    let mut record = [0u8; 5];
+    let Written::Length(_) = access_layout(access, &mut record) else {
+        return Written::Refused(Refusal::NoForm);
+    };
+    join(&[channel, mode, limit], &record, out)
+}
+
+fn mode_number(mode: ChannelAccessMode) -> u8
+    ensures { λ r. ⌜ r ≡ modeNumber mode ⌝ }
+{
+    match mode {
+        ChannelAccessMode::Disabled => 0,
+        ChannelAccessMode::PreBootOnly => 1,
+        ChannelAccessMode::AlwaysAvailable => 2,
+        ChannelAccessMode::Shared => 3,
+        ChannelAccessMode::Unknown(value) => value,
+    }
+}
+
+fn limit_number(limit: ChannelPrivilegeLevel) -> u8
+    ensures { λ r. ⌜ r ≡ limitNumber limit ⌝ }
+{
+    match limit {
+        ChannelPrivilegeLevel::Reserved => 0,
+        ChannelPrivilegeLevel::Callback => 1,
+        ChannelPrivilegeLevel::User => 2,
+        ChannelPrivilegeLevel::Operator => 3,
+        ChannelPrivilegeLevel::Administrator => 4,
+        ChannelPrivilegeLevel::Oem => 5,
+        ChannelPrivilegeLevel::Unknown(value) => value,
+    }
+}
+
+fn access_numbers(access: ChannelAccess) -> [u8; 5]
+    ensures { λ r. ⌜ r ≡ accessNumbers access ⌝ }
+{
+    let mode = access.access_mode;
+    let limit = access.privilege_level_limit;
+    [
+        mode_number(mode),
+        access.alerting_disabled as u8,
+        access.per_msg_auth_disabled as u8,
+        access.user_level_auth_disabled as u8,
+        limit_number(limit),
+    ]
+}
+
+// The access record of the non-volatile settings, then that of the volatile ones. None is refused.
+pub fn settings_layout(settings: ChannelSettings, out: &mut [u8]) -> Written
+    ensures { λ r. ⌜ Writes (accepted (settingsLayout settings)) r (now (out .entry)) (now (out .exit)) ⌝ }
+{
+    let non_volatile = settings.non_volatile;
+    let volatile = settings.volatile;
+    join(
+        &access_numbers(non_volatile),
+        &access_numbers(volatile),
+        out,
+    )
+}
+
+pub fn settings_record(bytes: &[u8; 10]) -> ChannelSettings
+    ensures { λ r. ⌜ r ≡ settingsRecord (now (bytes .entry)) ⌝ }
+{
+    let non_volatile = [bytes[0], bytes[1], bytes[2], bytes[3], bytes[4]];
+    let volatile = [bytes[5], bytes[6], bytes[7], bytes[8], bytes[9]];
+    ChannelSettings {
+        non_volatile: access_record(&non_volatile),
+        volatile: access_record(&volatile),
+    }
 }
 
 // Channel; medium; protocol; session support; active sessions; vendor, four bytes, low first; two auxiliary bytes.

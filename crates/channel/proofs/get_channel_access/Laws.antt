@@ -36,10 +36,10 @@ mode-unknown n h = List·getD-eq-default modes (Mode.Unknown n) h
 pub limit-unknown : (n : ℕ) → 6 ≤ n → limitOf n ≡ Level.Unknown n
 limit-unknown n h = List·getD-eq-default limits (Level.Unknown n) h
 
-mode-given : (n : ℕ) → n ≤ 7 → modeField (modeOf n) ≡ accepted n
+pub mode-given : (n : ℕ) → n ≤ 7 → modeField (modeOf n) ≡ accepted n
 mode-given n h = below 8 (λ n. modeField (modeOf n)) accepted refl n (omega arith)
 
-limit-given : (n : ℕ) → n ≤ 15 → limitField (limitOf n) ≡ accepted n
+pub limit-given : (n : ℕ) → n ≤ 15 → limitField (limitOf n) ≡ accepted n
 limit-given n h = below 16 (λ n. limitField (limitOf n)) accepted refl n (omega arith)
 
 pub mode-back : (m : ChannelAccessMode) (n : ℕ) → modeField m ≡ accepted n → (n < 8) × (modeOf n ≡ m)
@@ -60,7 +60,7 @@ limit-back (Level.Unknown v) n e = let w = ranged v 6 15 v 9 e in same limitOf 1
 
 -- Byte 0 of the response: what the machine puts together, and its four fields.
 
-abbrev first : ℕ → Bool → Bool → Bool → ℕ
+abbrev pub first : ℕ → Bool → Bool → Bool → ℕ
 first mode user perMessage alerting = mode + raised 3 user + raised 4 perMessage + raised 5 alerting
 
 module _ (mode : ℕ) (user perMessage alerting : Bool) (small : mode < 8) where
@@ -113,7 +113,7 @@ access-given s a e = go (ltb (length s) 2) e
         let z : accessFields (byte 0 s) (byte 1 s) ≡ a = cc in
         rw (← z) (simp (mode-given (bits 0 3 (byte 0 s)) (omega arith), limit-given (bits 0 4 (byte 1 s)) (omega arith)) (_, refl))
 
-access-only : (a : ChannelAccess) → Only 9 (accessBytes a)
+pub access-only : (a : ChannelAccess) → Only 9 (accessBytes a)
 access-only a = only-steps 9 (modeField (a .«access_mode»)) _ (mode-only (a .«access_mode»)) λ m. only-steps 9 (limitField (a .«privilege_level_limit»)) _ (limit-only (a .«privilege_level_limit»)) λ l. refl
   where
     mode-only : (m : ChannelAccessMode) → Only 9 (modeField m)

@@ -1,24 +1,12 @@
+use native.Mathlib.Omega.{arith}
 use borrow.Author.Needs.{needs}
+use mathlib.Core.Path.{sym}
+use Rattle.channel.proofs.set_channel_access.Laws.{pair-reserved}
 use Rattle.channel.proofs.set_channel_access.AccessPair.from.Statement.{statement}
 use Rattle.channel.proofs.set_channel_access.AccessPair.from.Tie as tie
-use Rattle.channel.proofs.set_channel_access.AccessPair.from.Reads as reads
-use Rattle.channel.proofs.set_channel_access.AccessPair.from.Lts as lts
 
--- src/set_channel_access.rt:26:5
-returns : tie.Need-returns
-returns c = search needs
-
--- src/set_channel_access.rt:26:5
-returns-2 : tie.Need-returns-2
-returns-2 c = search needs
-
--- src/set_channel_access.rt:26:5
-returns-3 : tie.Need-returns-3
-returns-3 c = search needs
-
--- src/set_channel_access.rt:26:5
 returns-4 : tie.Need-returns-4
-returns-4 c = ?
+returns-4 c = sym (pair-reserved (c .before .args .value) (omega arith))
 
 pub from-spec : {M : Type 1} → statement M
-from-spec = tie.close (tie.spec returns returns-2 returns-3 returns-4)
+from-spec = tie.close (tie.spec (λ c. search needs) (λ c. search needs) (λ c. search needs) returns-4)

@@ -1,91 +1,63 @@
 use borrow.Author.Needs.{needs}
+use mathlib.Core.Path.{sym, _∙_, ap}
+use lib.ListN.{getD}
+use Rattle.base.specs.Field.{saidField}
+use Rattle.channel.proofs.set_channel_access.Laws.{not-shown, pair-back, set-pair, shown, shown-two}
+use native.Mathlib.Omega.{arith}
 use Rattle.channel.proofs.set_channel_access.SetChannelAccess.parts.Statement.{statement}
 use Rattle.channel.proofs.set_channel_access.SetChannelAccess.parts.Tie as tie
-use Rattle.channel.proofs.set_channel_access.SetChannelAccess.parts.Reads as reads
-use Rattle.channel.proofs.set_channel_access.SetChannelAccess.parts.Lts as lts
-use Rattle.channel.proofs.get_channel_access.ChannelAccess.write.Reads as write-reads
-use Rattle.channel.proofs.set_channel_access.AccessPair.field.Reads as field-reads
 
--- src/set_channel_access.rt:138:41
-field-requires : tie.Need-field-requires
-field-requires c κs = search needs
-
--- src/set_channel_access.rt:138:33
-enum-known-mode : tie.Need-enum-known-mode
-enum-known-mode c = search needs
-
--- src/set_channel_access.rt:139:13
-enum-told : tie.Need-enum-told
-enum-told c = search needs
-
--- src/set_channel_access.rt:139:13
 returns : tie.Need-returns
-returns c = ?
+returns c = rw (← c .before .before .field .ensures, c .enum-told .given .1)
 
--- src/set_channel_access.rt:141:42
-field-requires-2 : tie.Need-field-requires-2
-field-requires-2 c κs = search needs
-
--- src/set_channel_access.rt:141:33
-enum-known-limit : tie.Need-enum-known-limit
-enum-known-limit c = search needs
-
--- src/set_channel_access.rt:142:13
-enum-told-2 : tie.Need-enum-told-2
-enum-told-2 c = search needs
-
--- src/set_channel_access.rt:142:13
 returns-2 : tie.Need-returns-2
-returns-2 c = ?
+returns-2 c =
+    let l = c .before .before in
+    let m = l .before .before in
+    rw (← m .before .before .field .ensures, m .mode .given .1, ← l .field2 .ensures, c .enum-told2 .given .1)
 
--- src/set_channel_access.rt:145:47
-slice-aggregate-write : tie.Need-slice-aggregate-write
-slice-aggregate-write c = search needs
-
--- src/set_channel_access.rt:145:34
-write-requires : tie.Need-write-requires
-write-requires c κs = search needs
-
-enum-told-3 : tie.Need-enum-told-3
-enum-told-3 c = search needs
-
--- src/set_channel_access.rt:146:13
-enum-told-4 : tie.Need-enum-told-4
-enum-told-4 c = search needs
-
--- src/set_channel_access.rt:146:13
 returns-3 : tie.Need-returns-3
-returns-3 c = ?
+returns-3 c =
+    let w = c .before .before .before in
+    let k = w .before .before .before in
+    let l = k .before .before in
+    let m = l .before .before in
+    let a = m .before .before .before .before .args .self .access in
+    rw
+    (← m .before .before .field .ensures, m .mode .given .1, ← l .field2 .ensures, k .limit .given .1, not-shown a (rw (c .enum-told4 .given .1) at (w .write .ensures)))
 
--- src/set_channel_access.rt:149:19
-array-read-t15 : tie.Need-array-read-t15
-array-read-t15 c = search needs
-
--- src/set_channel_access.rt:150:20
-array-read-t20 : tie.Need-array-read-t20
-array-read-t20 c = search needs
-
--- src/set_channel_access.rt:132:5
 returns-4 : tie.Need-returns-4
-returns-4 c = ?
+returns-4 c =
+    let w = c .before .before .before in
+    let k = w .before .before .before in
+    let l = k .before .before in
+    let m = l .before .before in
+    let f = m .before .before in
+    let self = f .before .before .args .self in
+    let e = shown (self .access) (rw (c .enum-told3 .given .1) at (w .write .ensures)) in
+    let small = shown-two (self .access) e in
+    let mode = pair-back (self .«mode_pair») (m .mode .given .0 .0) (sym (f .field .ensures) ∙ ap saidField (m .mode .given .1)) .0 in
+    let limit = pair-back (self .«limit_pair») (k .limit .given .0 .0) (sym (l .field2 .ensures) ∙ ap saidField (k .limit .given .1)) .0 in
+    rw
+    (← f .field .ensures, m .mode .given .1, ← l .field2 .ensures, k .limit .given .1, e, set-pair (m .mode .given .0 .0) (getD (w .write .last .1 .0) 0 0) mode (small .1), set-pair (k .limit .given .0 .0) (getD (w .write .last .1 .0) 1 0) limit (let low = small .2 in omega arith))
 
 pub parts-spec : {M : Type 1} → statement M
 parts-spec =
     tie.close
     (tie.spec
-    field-requires
-    enum-known-mode
-    enum-told
+    (search needs)
+    (search needs)
+    (search needs)
     returns
-    field-requires-2
-    enum-known-limit
-    enum-told-2
+    (search needs)
+    (search needs)
+    (search needs)
     returns-2
-    slice-aggregate-write
-    write-requires
-    enum-told-3
-    enum-told-4
+    (search needs)
+    (search needs)
+    (search needs)
+    (search needs)
     returns-3
-    array-read-t15
-    array-read-t20
+    (search needs)
+    (search needs)
     returns-4)
