@@ -1,5 +1,5 @@
-/* Ghjalvestru from C: readers of IPMI channel and session answers, writers of their requests, texts, the table of cipher
- * suites and the collector of a list of them.
+/* Ghjalvestru from C: readers of IPMI channel and session answers, writers of their requests, texts, a channel's settings
+ * after a Set Channel Access, the table of cipher suites and the collector of a list of them.
  *
  * Every function takes any bytes and any numbers. A pair `const uint8_t *x, size_t x_length` is a slice, which may be
  * empty; its pointer is never null. Slices that are written to and other slices do not overlap.
@@ -67,6 +67,22 @@ uint64_t ghj_activation_request(uint8_t auth_type, uint8_t privilege, const uint
 
 /* Get Channel Cipher Suites, 54h. 3 bytes: GHJ_NO_CHANNEL, then GHJ_BAD_INDEX above 0x3F. */
 uint64_t ghj_suites_request(uint8_t channel, uint8_t index, uint8_t *out, size_t out_length);
+
+/* Set Channel Access, 40h. 3 bytes: GHJ_NO_CHANNEL, then GHJ_NO_FORM where a pair is not 0 to 2, the mode above 7 or the
+ * limit above 15. `access` is the record that ghj_access gives: any other number than 0 sets a flag. mode_pair says where
+ * its mode and flags go, limit_pair where its limit goes: 0 leave, 1 non-volatile, 2 volatile. */
+uint64_t ghj_set_access_request(uint8_t channel, uint8_t mode_pair, uint8_t limit_pair, const uint8_t access[5],
+                                uint8_t *out, size_t out_length);
+
+/* A request of Set Channel Access, read back. 8 bytes: channel; the two pairs; the access record. GHJ_NOT_A_REQUEST for
+ * what the writer does not write. */
+uint64_t ghj_set_access(const uint8_t *request, size_t request_length, uint8_t *out, size_t out_length);
+
+/* A channel's two settings after the command, 10 bytes: the access record of the non-volatile ones, then that of the
+ * volatile ones. `settings` has them before. GHJ_NO_FORM as in the request. What a pair leaves stays as it was; modes and
+ * limits of the settings may be any numbers. */
+uint64_t ghj_set_access_apply(uint8_t mode_pair, uint8_t limit_pair, const uint8_t access[5], const uint8_t settings[10],
+                              uint8_t *out, size_t out_length);
 
 /* Responses. `response` is the data behind the completion code; the number is the record's length. */
 

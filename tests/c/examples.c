@@ -144,6 +144,89 @@ static void requests(void) {
     refuses("P3", ghj_suites_request(1, 0x40, out, 0), GHJ_BAD_INDEX, 0);
 }
 
+/* Set Channel Access: the request, its reader, and the command applied. */
+static const uint8_t always[5] = {2, 1, 0, 0, 4}, all_set[5] = {7, 0xFF, 2, 1, 15};
+static const uint8_t settings[10] = {2, 0, 1, 0, 4, 7, 1, 0, 1, 15};
+WRITER(set_request, ghj_set_access_request(1, 1, 2, always, out, room))
+WRITER(set_current, ghj_set_access_request(0x0E, 2, 0, all_set, out, room))
+WRITER(set_beside, ghj_set_access_request(1, 0, 0, all_set, out, room))
+WRITER(set_none, ghj_set_access_apply(0, 0, all_set, settings, out, room))
+WRITER(set_both, ghj_set_access_apply(1, 2, always, settings, out, room))
+WRITER(set_mode, ghj_set_access_apply(2, 0, always, settings, out, room))
+WRITER(set_limit, ghj_set_access_apply(0, 1, all_set, settings, out, room))
+
+static void set_requests(void) {
+    writes("set request", set_request, "\x01\x62\x84", 3);
+    writes("set request", set_current, "\x0E\xBF\x0F", 3);
+    writes("set request", set_beside, "\x01\x3F\x0F", 3);
+    static const uint8_t mode[5] = {8}, limit[5] = {0, 0, 0, 0, 16};
+    uint8_t out[8];
+    refuses("set request", ghj_set_access_request(0x0C, 3, 3, mode, out, 0), GHJ_NO_CHANNEL, 0);
+    refuses("set request", ghj_set_access_request(0x10, 0, 0, always, out, 0), GHJ_NO_CHANNEL, 0);
+    refuses("set request", ghj_set_access_request(0, 3, 0, always, out, 0), GHJ_NO_FORM, 0);
+    refuses("set request", ghj_set_access_request(0, 0, 0xFF, always, out, 0), GHJ_NO_FORM, 0);
+    refuses("set request", ghj_set_access_request(0, 0, 0, mode, out, 0), GHJ_NO_FORM, 0);
+    refuses("set request", ghj_set_access_request(0, 0, 0, limit, out, 0), GHJ_NO_FORM, 0);
+}
+
+static void set_readers(void) {
+    static const uint8_t request[] = {0x01, 0x62, 0x84, 0x00}, record[] = {1, 1, 2, 2, 1, 0, 0, 4};
+    gives("set", ghj_set_access, request, 3, record, 8);
+    /* A command that leaves everything, its fields set all the same. */
+    static const uint8_t beside[] = {0x01, 0x3F, 0x04}, beside_record[] = {1, 0, 0, 7, 1, 1, 1, 4};
+    gives("set", ghj_set_access, beside, 3, beside_record, 8);
+    static const uint8_t bad[][3] = {{0x0C, 0x62, 0x84}, {0x10, 0x62, 0x84}, {0x01, 0xE2, 0x84}, {0x01, 0x62, 0xC4},
+                                     {0x01, 0x62, 0x94}, {0x01, 0x62, 0xA4}, {0x01, 0x62, 0xB4}};
+    uint8_t out[8];
+    for (size_t i = 0; i < sizeof bad / sizeof *bad; i++) {
+        refuses("set", ghj_set_access(bad[i], 3, out, 0), GHJ_NOT_A_REQUEST, 0);
+        memset(out, 0xA5, sizeof out);
+        refuses("set", ghj_set_access(bad[i], 3, out, sizeof out), GHJ_NOT_A_REQUEST, 0);
+        for (size_t k = 0; k < sizeof out; k++)
+            check("set", out[k] == 0xA5);
+    }
+    refuses("set", ghj_set_access(request, 0, out, 0), GHJ_NOT_A_REQUEST, 0);
+    refuses("set", ghj_set_access(request, 2, out, 0), GHJ_NOT_A_REQUEST, 0);
+    refuses("set", ghj_set_access(request, 4, out, 0), GHJ_NOT_A_REQUEST, 0);
+}
+
+/* Each request of channel 1 that is read is written again as it was. */
+static void set_again(void) {
+    unsigned taken = 0;
+    for (unsigned n = 0; n < 0x10000; n++) {
+        uint8_t request[3] = {0x01, (uint8_t)(n >> 8), (uint8_t)n}, record[8], out[3];
+        if (ghj_set_access(request, 3, record, sizeof record) != 8)
+            continue;
+        taken++;
+        check("set again", ghj_set_access_request(record[0], record[1], record[2], record + 3, out, 3) == 3);
+        check("set again", memcmp(out, request, 3) == 0);
+    }
+    check("set again", taken == 3 * 64 * 3 * 16);
+}
+
+static void set_applied(void) {
+    writes("apply", set_none, settings, 10);
+    writes("apply", set_both, "\x02\x01\x00\x00\x04\x07\x01\x00\x01\x04", 10);
+    writes("apply", set_mode, "\x02\x00\x01\x00\x04\x02\x01\x00\x00\x0F", 10);
+    writes("apply", set_limit, "\x02\x00\x01\x00\x0F\x07\x01\x00\x01\x0F", 10);
+    static const uint8_t mode[5] = {8}, limit[5] = {0, 0, 0, 0, 16};
+    /* Settings are taken as they are: modes and limits of any number, a flag that is not 0. */
+    static const uint8_t odd[10] = {8, 0x80, 0, 2, 16, 0xFF, 0, 1, 0, 0xFE};
+    static const uint8_t odd_after[10] = {8, 1, 0, 1, 16, 2, 1, 0, 0, 0xFE};
+    uint8_t record[8], out[10];
+    check("apply", ghj_set_access_apply(2, 0, always, odd, out, 10) == 10 && memcmp(out, odd_after, 10) == 0);
+    /* Read, then applied: nothing changes. */
+    check("apply", ghj_set_access((const uint8_t *)"\x01\x3F\x04", 3, record, sizeof record) == 8);
+    check("apply", ghj_set_access_apply(record[1], record[2], record + 3, settings, out, 10) == 10);
+    check("apply", memcmp(out, settings, 10) == 0);
+    refuses("apply", ghj_set_access_apply(3, 0, always, settings, out, 0), GHJ_NO_FORM, 0);
+    refuses("apply", ghj_set_access_apply(0, 3, always, settings, out, 0), GHJ_NO_FORM, 0);
+    refuses("apply", ghj_set_access_apply(0, 0, mode, settings, out, 0), GHJ_NO_FORM, 0);
+    refuses("apply", ghj_set_access_apply(0, 0, limit, settings, out, 0), GHJ_NO_FORM, 0);
+    refuses("apply", ghj_set_access_apply(1, 1, limit, settings, out, 10), GHJ_NO_FORM, 0);
+    check("apply", memcmp(out, settings, 10) == 0);
+}
+
 static void texts(void) {
     writes("channel text", channel_text, "Channel 0x1", 11);
     writes("channel text", system_text, "System channel", 14);
@@ -253,6 +336,10 @@ static void collectors(void) {
 
 int main(void) {
     requests();
+    set_requests();
+    set_readers();
+    set_again();
+    set_applied();
     responses();
     texts();
     types();
