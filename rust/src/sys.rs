@@ -7,6 +7,10 @@
 
 /// How many bytes a session's challenge has.
 pub const CHALLENGE: usize = 16;
+/// How many bytes an access record has.
+pub const ACCESS: usize = 5;
+/// How many bytes a channel's two settings have: an access record each.
+pub const SETTINGS: usize = 2 * ACCESS;
 /// How many bytes a collector holds.
 pub const CAPACITY: usize = 1024;
 /// How many parts a collector holds.
@@ -37,6 +41,8 @@ macro_rules! from_bytes {
 }
 
 from_bytes! {
+    /// Reads a request of Set Channel Access.
+    set_access = ghj_set_access;
     /// Reads a response of Get Channel Access.
     access = ghj_access;
     /// Reads a response of Get Channel Info.
@@ -98,6 +104,22 @@ from_numbers! {
 }
 
 unsafe extern "C" {
+    fn ghj_set_access_request(
+        channel: u8,
+        mode_pair: u8,
+        limit_pair: u8,
+        access: &[u8; ACCESS],
+        out: *mut u8,
+        out_length: usize,
+    ) -> u64;
+    fn ghj_set_access_apply(
+        mode_pair: u8,
+        limit_pair: u8,
+        access: &[u8; ACCESS],
+        settings: &[u8; SETTINGS],
+        out: *mut u8,
+        out_length: usize,
+    ) -> u64;
     fn ghj_challenge_request(
         auth_type: u8,
         name: *const u8,
@@ -122,6 +144,32 @@ unsafe extern "C" {
         position: &mut usize,
         failed: &mut u8,
     ) -> u64;
+}
+
+/// The data of Set Channel Access; a pair is 0 for leave, 1 for non-volatile, 2 for volatile.
+pub fn set_access_request(
+    channel: u8,
+    mode_pair: u8,
+    limit_pair: u8,
+    access: &[u8; ACCESS],
+    out: &mut [u8],
+) -> u64 {
+    let (start, length) = (out.as_mut_ptr(), out.len());
+    // SAFETY: the pointer goes with its slice's length, and `out` is lent to this call alone.
+    unsafe { ghj_set_access_request(channel, mode_pair, limit_pair, access, start, length) }
+}
+
+/// A channel's two settings, non-volatile and volatile, after Set Channel Access.
+pub fn set_access_apply(
+    mode_pair: u8,
+    limit_pair: u8,
+    access: &[u8; ACCESS],
+    settings: &[u8; SETTINGS],
+    out: &mut [u8],
+) -> u64 {
+    let (start, length) = (out.as_mut_ptr(), out.len());
+    // SAFETY: as for the data.
+    unsafe { ghj_set_access_apply(mode_pair, limit_pair, access, settings, start, length) }
 }
 
 /// The data of Get Session Challenge.

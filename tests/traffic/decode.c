@@ -1,6 +1,8 @@
 /* Reads lines and prints what the port says to each: bytes in hex, or `refused`, the number and the byte that it carries.
  *     response COMMAND DATA     the record of a response with these data
  *     request COMMAND PARTS     the request that is made of these parts, in the order of the C function's arguments
+ *     read COMMAND DATA         the parts of a request with these data
+ *     apply COMMAND PARTS       the settings after a command, both in the order of the C function's arguments
  * All in hex, `-` for no bytes. */
 #include "ghjalvestru.h"
 
@@ -28,6 +30,7 @@ static uint64_t request(unsigned command, const uint8_t *parts, size_t length, u
     case 0x38: return ghj_capabilities_request(parts[0], parts[1], out, room);
     case 0x39: return ghj_challenge_request(parts[0], parts + 1, length - 1, out, room);
     case 0x3A: return ghj_activation_request(parts[0], parts[1], parts + 2, number(parts + 18), out, room);
+    case 0x40: return ghj_set_access_request(parts[0], parts[1], parts[2], parts + 3, out, room);
     case 0x41: return ghj_access_request(parts[0], parts[1], out, room);
     case 0x42: return ghj_info_request(parts[0], out, room);
     case 0x54: return ghj_suites_request(parts[0], parts[1], out, room);
@@ -35,15 +38,35 @@ static uint64_t request(unsigned command, const uint8_t *parts, size_t length, u
     }
 }
 
+static uint64_t set(const char *what, const uint8_t *bytes, size_t length, uint8_t *out, size_t room) {
+    if (strcmp(what, "read") == 0)
+        return ghj_set_access(bytes, length, out, room);
+    if (strcmp(what, "apply") == 0 && length == 17)
+        return ghj_set_access_apply(bytes[0], bytes[1], bytes + 2, bytes + 7, out, room);
+    exit(2);
+}
+
+static uint64_t answer(const char *what, unsigned command, const uint8_t *bytes, size_t length, uint8_t *out, size_t room) {
+    if (strcmp(what, "response") == 0)
+        return response(command, bytes, length, out, room);
+    if (strcmp(what, "request") == 0)
+        return request(command, bytes, length, out, room);
+    if (command == 0x40)
+        return set(what, bytes, length, out, room);
+    exit(2);
+}
+
 int main(void) {
     char what[16], pairs[1024];
     unsigned command, byte;
+    /* A question may wait for the answer to the one before. */
+    setvbuf(stdout, NULL, _IOLBF, BUFSIZ);
     while (scanf("%15s %x %1023s", what, &command, pairs) == 3) {
         uint8_t bytes[512] = {0}, out[32];
         size_t length = 0;
         for (const char *at = pairs; sscanf(at, "%2x", &byte) == 1; at += 2)
             bytes[length++] = (uint8_t)byte;
-        uint64_t said = (strcmp(what, "request") == 0 ? request : response)(command, bytes, length, out, sizeof out);
+        uint64_t said = answer(what, command, bytes, length, out, sizeof out);
         if (GHJ_IS_REFUSED(said)) {
             printf("refused %u %u\n", GHJ_REFUSAL(said), GHJ_CARRIED(said));
             continue;

@@ -2,7 +2,8 @@
 
 use crate::connection::{Channel, IpmiCommand, Message};
 use crate::number::{certain, record, show};
-use crate::{sys, Error};
+use crate::sys::{self, ACCESS};
+use crate::Error;
 use std::fmt;
 
 /// Asks for the access settings of a channel.
@@ -79,14 +80,29 @@ pub struct ChannelAccess {
 impl ChannelAccess {
     /// Reads a response; refuses [`Error::NotEnoughData`].
     pub fn parse(data: &[u8]) -> Result<Self, Error> {
-        let [mode, alerting, per_msg, user_level, limit] = record(|out| sys::access(data, out))?;
-        Ok(Self {
+        record(|out| sys::access(data, out)).map(Self::from_record)
+    }
+
+    /// From a record as C has it.
+    pub(super) fn from_record([mode, alerting, per_msg, user_level, limit]: [u8; ACCESS]) -> Self {
+        Self {
             access_mode: mode.into(),
             alerting_disabled: alerting != 0,
             per_msg_auth_disabled: per_msg != 0,
             user_level_auth_disabled: user_level != 0,
             privilege_level_limit: limit.into(),
-        })
+        }
+    }
+
+    /// As C has it. `Unknown` of a number that has a name becomes that number, as the named one does.
+    pub(super) fn to_record(&self) -> [u8; ACCESS] {
+        [
+            self.access_mode.into(),
+            self.alerting_disabled.into(),
+            self.per_msg_auth_disabled.into(),
+            self.user_level_auth_disabled.into(),
+            self.privilege_level_limit.into(),
+        ]
     }
 
     /// Is the channel disabled?

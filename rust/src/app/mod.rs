@@ -3,6 +3,7 @@
 pub mod auth;
 pub mod get_channel_access;
 pub mod get_channel_info;
+pub mod set_channel_access;
 
 pub use get_channel_access::{
     ChannelAccess, ChannelAccessMode, ChannelAccessType, ChannelPrivilegeLevel, GetChannelAccess,
@@ -11,3 +12,4 @@ pub use get_channel_info::{
     AuxChannelInfo, ChannelInfo, ChannelMediumType, ChannelProtocolType, ChannelSessionSupport,
     GetChannelInfo,
 };
+pub use set_channel_access::{AccessPair, ChannelSettings, SetChannelAccess};
