@@ -1,5 +1,5 @@
 -- What an answer comes to as a number.
-use mathlib.Core.Path.{_≡_, refl, sym, _∙_, ap}
+use mathlib.Core.Path.{_≡_, refl, _∙_, ap}
 use mathlib.Core.List.{List}
 use mathlib.Core.Option.{Option, none, some}
 use Prim.Native.Nat.{ℕ, zero, suc}
@@ -9,7 +9,6 @@ use Rattle.base.specs.Outcome.{Outcome, accepted, refused}
 use Rattle.base.specs.Refusal.{refusal}
 use Rattle.base.specs.Verdict.{Gives, saidVerdict, verdictOf}
 use Rattle.base.specs.Written.{Writes, saidWritten}
-use Rattle.base.specs.declared.connection.Channel.{Channel}
 use Rattle.base.specs.declared.written.Written.{Written}
 use Rattle.base.specs.declared.refusal.Refusal.{Refusal}
 use Rattle.base.specs.declared.verdict.Verdict.{Verdict}
@@ -18,12 +17,6 @@ use Rattle.base.proofs.Named.{nothing}
 use Rattle.base.proofs.written.Laws.{refusing}
 use Rattle.capi.specs.Number.{Codes, CodesAny, Takes, code, noneBit, plain}
 use Rattle.capi.specs.Requests.{kinds}
-use Rattle.channel.specs.SetChannelAccess.{applied, command, commandFor, saidCommand, saidSettings}
-use Rattle.channel.specs.declared.get_channel_access.ChannelAccess.{ChannelAccess}
-use Rattle.channel.specs.declared.set_channel_access.AccessPair.{AccessPair}
-use Rattle.channel.specs.declared.set_channel_access.ChannelSettings.{ChannelSettings}
-use Rattle.channel.specs.declared.set_channel_access.CommandAnswer.{CommandAnswer}
-use Rattle.channel.specs.declared.set_channel_access.SettingsAnswer.{SettingsAnswer}
 use Rattle.collector.specs.declared.Collector.{Collector}
 
 pub coding : {message : Outcome (List ℕ)} {w : Written} {n : ℕ} {before after : List ℕ} → n ≡ code (saidWritten w) → Writes message w before after → Codes message n before after
@@ -59,12 +52,3 @@ no-kind zero no-one no-two = refl
 no-kind (suc zero) no-one no-two = absurd (no-one refl)
 no-kind (suc (suc zero)) no-one no-two = absurd (no-two refl)
 no-kind (suc (suc (suc n))) no-one no-two = nothing kinds (suc (suc (suc n))) (omega arith)
-
--- What is answered of a command of Set Channel Access whose parts were made first: its making, and its applying.
-module _ {m m′ l l′ : AccessPair} {a a′ : ChannelAccess} (p : m ≡ m′) (q : l ≡ l′) (r : a ≡ a′) where
-  pub made-of : {x y : CommandAnswer} (number : ℕ) → saidCommand x ≡ commandFor number m l a → x ≡ y → commandFor number m′ l′ a′ ≡ saidCommand y
-  made-of number e f = rw (← f, ← p, ← q, ← r) (sym e)
-
-  pub applied-of : {x y : SettingsAnswer} {s s′ : ChannelSettings} (channel : Channel) → s ≡ s′ → saidSettings x ≡ applied (command channel m l a) s → x ≡ y
-      → applied (command channel m′ l′ a′) s′ ≡ saidSettings y
-  applied-of channel t e f = rw (← f, ← p, ← q, ← r, ← t) (sym e)

@@ -103,7 +103,7 @@ access-laid a t e =
     let (l, el, g) = steps (limitField (a .«privilege_level_limit»)) (λ l. accepted (two a m l)) f in
     (five a m l, laid-as a m l em el)
 
-set-laid : (k : SetChannelAccess) (n m l : ℕ) (a : List ℕ) → channelField (k .channel) ≡ accepted n → pairField (k .«mode_pair») ≡ accepted m
+pub set-laid : (k : SetChannelAccess) (n m l : ℕ) (a : List ℕ) → channelField (k .channel) ≡ accepted n → pairField (k .«mode_pair») ≡ accepted m
     → pairField (k .«limit_pair») ≡ accepted l → accessLayout (k .access) ≡ accepted a → setAccessLayout k ≡ accepted (n ∷ m ∷ l ∷ a)
 set-laid k n m l a en em el ea = rw (en, em, el, ea)
 
@@ -146,6 +146,13 @@ numbers-laid a s e =
 -- five bytes from byte `at` on, each flag as 0 or 1
 abbrev pub flagged : ℕ → List ℕ → List ℕ
 flagged at s = byte at s ∷ boolByte (isSet (byte (at + 1) s)) ∷ boolByte (isSet (byte (at + 2) s)) ∷ boolByte (isSet (byte (at + 3) s)) ∷ byte (at + 4) s ∷ []
+
+-- Five bytes, taken as an access that a message can have, are its layout, each flag as 0 or 1.
+pub record-laid : (s t : List ℕ) → accessBytes (accessRecord s) ≡ accepted t → accessLayout (accessRecord s) ≡ accepted (flagged 0 s)
+record-laid s t e =
+    let (r, er) = access-laid (accessRecord s) t e in
+    let z : accessNumbers (accessRecord s) ≡ flagged 0 s = simp (mode-number, limit-number) in
+    er ∙ ap accepted (sym (numbers-laid (accessRecord s) r er) ∙ z)
 
 -- Ten bytes, taken as settings and laid out again, are the same bytes, each flag as 0 or 1.
 pub settings-back : (s : List ℕ) → settingsLayout (settingsRecord s) ≡ flagged 0 s ++ flagged 5 s

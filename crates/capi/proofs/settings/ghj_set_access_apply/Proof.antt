@@ -1,7 +1,8 @@
 use borrow.Author.Needs.{needs}
 use Rattle.base.specs.declared.connection.Channel.the-variants.{Primary}
 use Rattle.base.specs.declared.refusal.Refusal.the-variants.{NoForm}
-use Rattle.capi.proofs.Laws.{applied-of, coding, refused-coded}
+use Rattle.capi.proofs.Laws.{coding, refused-coded}
+use Rattle.capi.proofs.settings.Laws.{applied-of}
 use Rattle.capi.proofs.settings.ghj_set_access_apply.Statement.{statement}
 use Rattle.capi.proofs.settings.ghj_set_access_apply.Tie as tie
 

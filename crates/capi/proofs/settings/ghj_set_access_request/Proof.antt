@@ -1,5 +1,6 @@
 use borrow.Author.Needs.{needs}
-use Rattle.capi.proofs.Laws.{coding, made-of, refused-coded}
+use Rattle.capi.proofs.Laws.{coding, refused-coded}
+use Rattle.capi.proofs.settings.Laws.{made-of}
 use Rattle.capi.proofs.settings.ghj_set_access_request.Statement.{statement}
 use Rattle.capi.proofs.settings.ghj_set_access_request.Tie as tie
 
