@@ -23,7 +23,7 @@ use Rattle.channel.specs.declared.get_channel_access.ChannelAccess.{ChannelAcce
 use Rattle.channel.specs.declared.set_channel_access.SetChannelAccess.{SetChannelAccess}
 use Rattle.channel.proofs.get_channel_access.Laws.{access-only, first, limit-back, limit-unknown, mode-back, mode-unknown}
 use Rattle.channel.proofs.set_channel_access.Laws.{command-iff, pair-back, parts-are}
-use Rattle.layouts.specs.Layouts.{accessLayout, accessNumbers, accessRecord, isSet, limitNumber, modeNumber, setAccessLayout, settingsLayout, settingsRecord}
+use Rattle.layouts.specs.Layouts.{accessFrom, accessLayout, accessNumbers, accessRecord, isSet, limitNumber, modeNumber, setAccessLayout, settingsLayout, settingsRecord}
 
 -- The access record: five bytes, where a response has two.
 
@@ -159,6 +159,6 @@ pub settings-back : (s : List ℕ) → settingsLayout (settingsRecord s) ≡ fla
 settings-back s = simp (mode-number, limit-number, getD-drop)
 
 -- the second five bytes are those behind the first
-pub halves : (s : List ℕ) {fst snd : ChannelAccess} → fst ≡ accessRecord s → snd ≡ accessRecord (byte 5 s ∷ byte 6 s ∷ byte 7 s ∷ byte 8 s ∷ byte 9 s ∷ [])
+pub halves : (s : List ℕ) {fst snd : ChannelAccess} → fst ≡ accessRecord s → snd ≡ accessFrom (byte 5 s) (byte 6 s) (byte 7 s) (byte 8 s) (byte 9 s)
     → record { «non_volatile» = fst; volatile = snd } ≡ settingsRecord s
 halves s e f = simp (e, f, getD-drop)

@@ -33,16 +33,20 @@ accessLayout a = do
 abbrev pub isSet : ℕ → Bool
 isSet n = not (n =? 0)
 
--- the same back, of any five bytes: mode and limit by the whole byte
-abbrev pub accessRecord : List ℕ → ChannelAccess
-accessRecord bytes =
+-- the access that five numbers make: mode; what is DISABLED; limit. Mode and limit count whole
+abbrev pub accessFrom : ℕ → ℕ → ℕ → ℕ → ℕ → ChannelAccess
+accessFrom mode alerting perMessage userLevel limit =
     record {
-      «access_mode» = modeOf (byte 0 bytes);
-      «alerting_disabled» = isSet (byte 1 bytes);
-      «per_msg_auth_disabled» = isSet (byte 2 bytes);
-      «user_level_auth_disabled» = isSet (byte 3 bytes);
-      «privilege_level_limit» = limitOf (byte 4 bytes);
+      «access_mode» = modeOf mode;
+      «alerting_disabled» = isSet alerting;
+      «per_msg_auth_disabled» = isSet perMessage;
+      «user_level_auth_disabled» = isSet userLevel;
+      «privilege_level_limit» = limitOf limit;
     }
+
+-- the access record back, of any five bytes
+abbrev pub accessRecord : List ℕ → ChannelAccess
+accessRecord s = accessFrom (byte 0 s) (byte 1 s) (byte 2 s) (byte 3 s) (byte 4 s)
 
 -- channel; the pairs of mode and limit, "00 leave, 01 set non-volatile, 10 set volatile"; the access record. 9 where one has no form
 abbrev pub setAccessLayout : SetChannelAccess → Outcome (List ℕ)
@@ -79,7 +83,7 @@ accessNumbers a = modeNumber (a .«access_mode») ∷ boolByte (a .«alerting_di
 abbrev pub settingsLayout : ChannelSettings → List ℕ
 settingsLayout s = accessNumbers (s .«non_volatile») ++ accessNumbers (s .volatile)
 
--- the same back, of any ten bytes
+-- the settings back, of any ten bytes
 abbrev pub settingsRecord : List ℕ → ChannelSettings
 settingsRecord bytes = record { «non_volatile» = accessRecord bytes; volatile = accessRecord (drop 5 bytes) }
 

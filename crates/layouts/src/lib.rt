@@ -2,7 +2,7 @@
 ghost use mathlib.Core.Path.{_≡_};
 ghost use Rattle.base.specs.Outcome.{accepted};
 ghost use Rattle.base.specs.Written.{Writes};
-ghost use Rattle.layouts.specs.Layouts.{accessLayout, accessNumbers, accessRecord, capabilitiesLayout, infoLayout, limitNumber, modeNumber, setAccessLayout, settingsLayout, settingsRecord};
+ghost use Rattle.layouts.specs.Layouts.{accessFrom, accessLayout, accessNumbers, accessRecord, capabilitiesLayout, infoLayout, limitNumber, modeNumber, setAccessLayout, settingsLayout, settingsRecord};
 use auth::get_channel_authentication_capabilities::ChannelAuthenticationCapabilities;
 use base::field::FieldAnswer;
 use base::little::bytes4;
@@ -35,17 +35,24 @@ pub fn access_layout(access: ChannelAccess, out: &mut [u8]) -> Written
     place(&[mode, alerting, per_message, user_level, limit], out)
 }
 
-// The same of any bytes: any number but 0 sets a flag, and mode and limit count whole.
+// Any number but 0 sets a flag; mode and limit count whole.
+fn access_from(mode: u8, alerting: u8, per_message: u8, user_level: u8, limit: u8) -> ChannelAccess
+    ensures { λ r. ⌜ r ≡ accessFrom mode alerting «per_message» «user_level» limit ⌝ }
+{
+    ChannelAccess {
+        access_mode: ChannelAccessMode::from(mode),
+        alerting_disabled: alerting != 0,
+        per_msg_auth_disabled: per_message != 0,
+        user_level_auth_disabled: user_level != 0,
+        privilege_level_limit: ChannelPrivilegeLevel::from(limit),
+    }
+}
+
+// The record back, of any bytes.
 pub fn access_record(bytes: &[u8; 5]) -> ChannelAccess
     ensures { λ r. ⌜ r ≡ accessRecord (now (bytes .entry)) ⌝ }
 {
-    ChannelAccess {
-        access_mode: ChannelAccessMode::from(bytes[0]),
-        alerting_disabled: bytes[1] != 0,
-        per_msg_auth_disabled: bytes[2] != 0,
-        user_level_auth_disabled: bytes[3] != 0,
-        privilege_level_limit: ChannelPrivilegeLevel::from(bytes[4]),
-    }
+    access_from(bytes[0], bytes[1], bytes[2], bytes[3], bytes[4])
 }
 
 // Channel; the pair of the mode; the pair of the limit; the access record.
@@ -125,14 +132,13 @@ pub fn settings_layout(settings: ChannelSettings, out: &mut [u8]) -> Written
     )
 }
 
+// The same back, of any bytes.
 pub fn settings_record(bytes: &[u8; 10]) -> ChannelSettings
     ensures { λ r. ⌜ r ≡ settingsRecord (now (bytes .entry)) ⌝ }
 {
-    let non_volatile = [bytes[0], bytes[1], bytes[2], bytes[3], bytes[4]];
-    let volatile = [bytes[5], bytes[6], bytes[7], bytes[8], bytes[9]];
     ChannelSettings {
-        non_volatile: access_record(&non_volatile),
-        volatile: access_record(&volatile),
+        non_volatile: access_from(bytes[0], bytes[1], bytes[2], bytes[3], bytes[4]),
+        volatile: access_from(bytes[5], bytes[6], bytes[7], bytes[8], bytes[9]),
     }
 }
 
