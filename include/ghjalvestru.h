@@ -79,8 +79,8 @@ uint64_t ghj_set_access_request(uint8_t channel, uint8_t mode_pair, uint8_t limi
 uint64_t ghj_set_access(const uint8_t *request, size_t request_length, uint8_t *out, size_t out_length);
 
 /* A channel's two settings after the command, 10 bytes: the access record of the non-volatile ones, then that of the
- * volatile ones. `settings` has them before. GHJ_NO_FORM as in the request. What a pair leaves stays as it was; modes and
- * limits of the settings may be any numbers. */
+ * volatile ones. `settings` has them before. GHJ_NO_FORM as in the request. What a pair leaves stays as it was: modes and
+ * limits of the settings may be any numbers, and a flag that is not 0 is 1 afterwards. */
 uint64_t ghj_set_access_apply(uint8_t mode_pair, uint8_t limit_pair, const uint8_t access[5], const uint8_t settings[10],
                               uint8_t *out, size_t out_length);
 
