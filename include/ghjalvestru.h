@@ -129,7 +129,8 @@ uint64_t ghj_auth_type_name(uint8_t auth_type, uint8_t *out, size_t out_length);
 /* The number of the strongest authentication type that is offered (each argument: 0 for not offered), or GHJ_NONE. */
 uint64_t ghj_best_auth(uint8_t key, uint8_t md5, uint8_t md2, uint8_t none);
 
-/* 0 where auth_type is weaker than other, 1 equal, 2 stronger; GHJ_INVALID_AUTH_TYPE with the first byte that is none. */
+/* 0 where auth_type is weaker than other, 1 equal, 2 stronger; weakest first: none, Key, MD2, MD5.
+ * GHJ_INVALID_AUTH_TYPE with the first byte that is no type. */
 uint64_t ghj_compare_strength(uint8_t auth_type, uint8_t other);
 
 /* A suite's three algorithms, 3 bytes: authentication, integrity, confidentiality. GHJ_NONE, and nothing written, where

@@ -49,7 +49,7 @@ high-level n h = nothing privileges n (omega arith)
 
 -- The strength order.
 
--- the Rust's chain of comparisons, which compare_strength makes
+-- the Rust's chain of comparisons, in its order ..
 abbrev pub chain : AuthType → AuthType → Ordering
 chain a b =
     if authTypeValue a =? authTypeValue b then Equal else
@@ -59,6 +59,7 @@ chain a b =
     if authTypeValue b =? authTypeValue Key then Greater else
     if authTypeValue a =? authTypeValue MD2 then Less else Greater
 
+-- .. gives what the ranks give, on all sixteen pairs
 pub chain-is : (a b : AuthType) → chain a b ≡ strength a b
 chain-is None = elim [ None ↦ refl | MD2 ↦ refl | MD5 ↦ refl | Key ↦ refl ]
 chain-is MD2 = elim [ None ↦ refl | MD2 ↦ refl | MD5 ↦ refl | Key ↦ refl ]

@@ -1,7 +1,6 @@
 // The session's messages: the Rust's auth/mod.rs. `try_from` is its TryFrom<u8>, `value` its From for u8, `name` its Debug.
 ghost use mathlib.Core.Path.{_≡_};
-ghost use Rattle.auth.specs.Auth.{authTypeName, authTypeOf, authTypeValue, privilegeOf, privilegeValue, saidAuthType, saidPrivilege, strength};
-ghost use Rattle.base.specs.Choice.{_=?_};
+ghost use Rattle.auth.specs.Auth.{authTypeName, authTypeOf, authTypeValue, privilegeOf, privilegeValue, rank, saidAuthType, saidPrivilege, strength};
 ghost use Rattle.base.specs.Outcome.{accepted};
 ghost use Rattle.base.specs.Written.{Writes};
 use base::field::bits;
@@ -66,35 +65,31 @@ impl AuthType {
         }
     }
 
-    fn is(self, other: Self) -> bool
-        ensures { λ r. ⌜ r ≡ (authTypeValue self =? authTypeValue other) ⌝ }
+    // Weakest first.
+    fn rank(self) -> u8
+        ensures { λ r. ⌜ r ≡ rank self ⌝ }
     {
-        self.value() == other.value()
+        match self {
+            AuthType::None => 0,
+            AuthType::Key => 1,
+            AuthType::MD2 => 2,
+            AuthType::MD5 => 3,
+        }
     }
 
-    // Greater: `self` is the stronger.
+    // Greater: `self` is the stronger. The Rust's chain of comparisons gives the same: `chain-is`.
     pub fn compare_strength(self, other: Self) -> Ordering
         ensures { λ r. ⌜ r ≡ strength self other ⌝ }
     {
-        if self.is(other) {
-            return Ordering::Equal;
-        }
-        if self.is(AuthType::None) {
+        let one = self.rank();
+        let two = other.rank();
+        if one < two {
             return Ordering::Less;
         }
-        if other.is(AuthType::None) {
+        if two < one {
             return Ordering::Greater;
         }
-        if self.is(AuthType::Key) {
-            return Ordering::Less;
-        }
-        if other.is(AuthType::Key) {
-            return Ordering::Greater;
-        }
-        if self.is(AuthType::MD2) {
-            return Ordering::Less;
-        }
-        Ordering::Greater
+        Ordering::Equal
     }
 }
 

@@ -32,7 +32,7 @@ pub enum AuthType {
 }
 
 impl AuthType {
-    /// [`Ordering::Greater`] where this type is the stronger one.
+    /// [`Ordering::Greater`] where this type is the stronger one. Weakest first: None, Key, MD2, MD5.
     pub fn compare_strength(&self, other: &Self) -> Ordering {
         let number = sys::compare_strength((*self).into(), (*other).into());
         certain(accepted(number)).cmp(&1)
