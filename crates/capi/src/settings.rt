@@ -5,14 +5,14 @@ use crate::code;
 use crate::refused;
 use base::connection::Channel;
 use base::refusal::Refusal;
-use channel::set_channel_access::AccessPair;
-use channel::set_channel_access::CommandAnswer;
-use channel::set_channel_access::SetChannelAccess;
-use channel::set_channel_access::SettingsAnswer;
 use layouts::access_record;
 use layouts::set_access_layout;
 use layouts::settings_layout;
 use layouts::settings_record;
+use setting::set_channel_access::AccessPair;
+use setting::set_channel_access::CommandAnswer;
+use setting::set_channel_access::SetChannelAccess;
+use setting::set_channel_access::SettingsAnswer;
 
 // A pair is 0 leave, 1 non-volatile, 2 volatile.
 #[no_mangle]

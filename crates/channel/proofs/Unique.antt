@@ -3,7 +3,7 @@ use mathlib.Core.Path.{refl}
 use Rattle.base.proofs.Said.{field-one}
 use Rattle.base.proofs.Unique.{Unique, both, writer}
 use Rattle.channel.proofs as p
-use Rattle.channel.proofs.Said.{access-one, command-one, set-command-one, settings-one}
+use Rattle.channel.proofs.Said.{access-one, command-one}
 
 pub channel-access-type-byte-unique : Unique p.get_channel_access.ChannelAccessType.byte.Kinds.ps p.get_channel_access.ChannelAccessType.byte.Kinds.r p.get_channel_access.ChannelAccessType.byte.Reads.Asked p.get_channel_access.ChannelAccessType.byte.Reads.Learnt
 channel-access-type-byte-unique κs a ok z z′ w w′ q q′ = (both q q′, refl)
@@ -52,21 +52,3 @@ channel-privilege-level-field-unique κs a ok z z′ w w′ q q′ = (field-one 
 
 pub channel-privilege-level-text-unique : Unique p.get_channel_access.ChannelPrivilegeLevel.text.Kinds.ps p.get_channel_access.ChannelPrivilegeLevel.text.Kinds.r p.get_channel_access.ChannelPrivilegeLevel.text.Reads.Asked p.get_channel_access.ChannelPrivilegeLevel.text.Reads.Learnt
 channel-privilege-level-text-unique κs a ok z z′ w w′ q q′ = writer q q′
-
-pub access-pair-from-unique : Unique p.set_channel_access.AccessPair.from.Kinds.ps p.set_channel_access.AccessPair.from.Kinds.r p.set_channel_access.AccessPair.from.Reads.Asked p.set_channel_access.AccessPair.from.Reads.Learnt
-access-pair-from-unique κs a ok z z′ w w′ q q′ = (both q q′, refl)
-
-pub access-pair-field-unique : Unique p.set_channel_access.AccessPair.field.Kinds.ps p.set_channel_access.AccessPair.field.Kinds.r p.set_channel_access.AccessPair.field.Reads.Asked p.set_channel_access.AccessPair.field.Reads.Learnt
-access-pair-field-unique κs a ok z z′ w w′ q q′ = (field-one z z′ (both q q′), refl)
-
-pub set-channel-access-numbered-unique : Unique p.set_channel_access.SetChannelAccess.numbered.Kinds.ps p.set_channel_access.SetChannelAccess.numbered.Kinds.r p.set_channel_access.SetChannelAccess.numbered.Reads.Asked p.set_channel_access.SetChannelAccess.numbered.Reads.Learnt
-set-channel-access-numbered-unique κs a ok z z′ w w′ q q′ = (set-command-one z z′ (both q q′), refl)
-
-pub set-channel-access-write-unique : Unique p.set_channel_access.SetChannelAccess.write.Kinds.ps p.set_channel_access.SetChannelAccess.write.Kinds.r p.set_channel_access.SetChannelAccess.write.Reads.Asked p.set_channel_access.SetChannelAccess.write.Reads.Learnt
-set-channel-access-write-unique κs a ok z z′ w w′ q q′ = writer q q′
-
-pub set-channel-access-read-unique : Unique p.set_channel_access.SetChannelAccess.read.Kinds.ps p.set_channel_access.SetChannelAccess.read.Kinds.r p.set_channel_access.SetChannelAccess.read.Reads.Asked p.set_channel_access.SetChannelAccess.read.Reads.Learnt
-set-channel-access-read-unique κs a ok z z′ w w′ q q′ = (set-command-one z z′ (both q q′), refl)
-
-pub set-channel-access-apply-unique : Unique p.set_channel_access.SetChannelAccess.apply.Kinds.ps p.set_channel_access.SetChannelAccess.apply.Kinds.r p.set_channel_access.SetChannelAccess.apply.Reads.Asked p.set_channel_access.SetChannelAccess.apply.Reads.Learnt
-set-channel-access-apply-unique κs a ok z z′ w w′ q q′ = (settings-one z z′ (both q q′), refl)

@@ -1,2 +1,1 @@
 pub mod GetChannelAccess
-pub mod SetChannelAccess

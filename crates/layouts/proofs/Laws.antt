@@ -18,11 +18,11 @@ use Rattle.base.proofs.connection.Laws.{channel-iff}
 use Rattle.base.proofs.little.Laws.{Bytes}
 use Rattle.base.proofs.written.Laws.{filled}
 use Rattle.channel.specs.GetChannelAccess.{accessBytes, limitField, limitOf, modeField, modeOf}
-use Rattle.channel.specs.SetChannelAccess.{commandFor, commandOf, pairField, pairOf, partsBytes}
 use Rattle.channel.specs.declared.get_channel_access.ChannelAccess.{ChannelAccess}
-use Rattle.channel.specs.declared.set_channel_access.SetChannelAccess.{SetChannelAccess}
 use Rattle.channel.proofs.get_channel_access.Laws.{access-only, first, limit-back, limit-unknown, mode-back, mode-unknown}
-use Rattle.channel.proofs.set_channel_access.Laws.{command-iff, pair-back, parts-are}
+use Rattle.setting.specs.SetChannelAccess.{commandFor, commandOf, pairField, pairOf, partsBytes}
+use Rattle.setting.specs.declared.set_channel_access.SetChannelAccess.{SetChannelAccess}
+use Rattle.setting.proofs.set_channel_access.Laws.{command-iff, pair-back, parts-are}
 use Rattle.layouts.specs.Layouts.{accessFrom, accessLayout, accessNumbers, accessRecord, isSet, limitNumber, modeNumber, setAccessLayout, settingsLayout, settingsRecord}
 
 -- The access record: five bytes, where a response has two.

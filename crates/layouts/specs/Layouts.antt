@@ -11,14 +11,14 @@ use Rattle.base.specs.Field.{byte}
 use Rattle.base.specs.Little.{littleBytes}
 use Rattle.base.specs.Outcome.{Outcome, accepted, _>>=_}
 use Rattle.channel.specs.GetChannelAccess.{limitField, limitOf, modeField, modeOf}
-use Rattle.channel.specs.SetChannelAccess.{pairField}
 use Rattle.channel.specs.declared.get_channel_access.ChannelAccess.{ChannelAccess}
 use Rattle.channel.specs.declared.get_channel_access.ChannelAccessMode.{ChannelAccessMode}
 use Rattle.channel.specs.declared.get_channel_access.ChannelAccessMode.the-variants as Mode
 use Rattle.channel.specs.declared.get_channel_access.ChannelPrivilegeLevel.{ChannelPrivilegeLevel}
 use Rattle.channel.specs.declared.get_channel_access.ChannelPrivilegeLevel.the-variants as Level
-use Rattle.channel.specs.declared.set_channel_access.ChannelSettings.{ChannelSettings}
-use Rattle.channel.specs.declared.set_channel_access.SetChannelAccess.{SetChannelAccess}
+use Rattle.setting.specs.SetChannelAccess.{pairField}
+use Rattle.setting.specs.declared.set_channel_access.ChannelSettings.{ChannelSettings}
+use Rattle.setting.specs.declared.set_channel_access.SetChannelAccess.{SetChannelAccess}
 use Rattle.media.specs.Media.{mediumField, protocolField, sessionField}
 use Rattle.info.specs.declared.get_channel_info.ChannelInfo.{ChannelInfo}
 

@@ -13,9 +13,9 @@ use base::written::place;
 use channel::get_channel_access::ChannelAccess;
 use channel::get_channel_access::ChannelAccessMode;
 use channel::get_channel_access::ChannelPrivilegeLevel;
-use channel::set_channel_access::ChannelSettings;
-use channel::set_channel_access::SetChannelAccess;
 use info::get_channel_info::ChannelInfo;
+use setting::set_channel_access::ChannelSettings;
+use setting::set_channel_access::SetChannelAccess;
 
 // Mode; alerting, per-message and user-level authentication DISABLED, 0 or 1 each; limit.
 pub fn access_layout(access: ChannelAccess, out: &mut [u8]) -> Written

@@ -12,12 +12,12 @@ use base::refusal::Refusal;
 use channel::get_channel_access::ChannelAccess;
 use channel::get_channel_access::ChannelAccessMode;
 use channel::get_channel_access::ChannelPrivilegeLevel;
-use channel::set_channel_access::AccessPair;
-use channel::set_channel_access::ChannelSettings;
-use channel::set_channel_access::CommandAnswer;
-use channel::set_channel_access::SetChannelAccess;
-use channel::set_channel_access::SettingsAnswer;
 use check::same;
+use setting::set_channel_access::AccessPair;
+use setting::set_channel_access::ChannelSettings;
+use setting::set_channel_access::CommandAnswer;
+use setting::set_channel_access::SetChannelAccess;
+use setting::set_channel_access::SettingsAnswer;
 
 fn record(mode: u8, alerting: u8, per_message: u8, user_level: u8, limit: u8) -> ChannelAccess {
     ChannelAccess {

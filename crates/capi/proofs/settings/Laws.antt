@@ -11,13 +11,13 @@ use Rattle.base.specs.declared.connection.Channel.{Channel}
 use Rattle.base.proofs.Outcome.{apart, steps}
 use Rattle.base.proofs.connection.Laws.{channel-iff}
 use Rattle.base.proofs.little.Laws.{Bytes}
-use Rattle.channel.specs.SetChannelAccess.{applied, command, commandBytes, commandFor, commandOf, pairField, pairOf, partsBytes, saidCommand, saidSettings}
 use Rattle.channel.specs.declared.get_channel_access.ChannelAccess.{ChannelAccess}
-use Rattle.channel.specs.declared.set_channel_access.AccessPair.{AccessPair}
-use Rattle.channel.specs.declared.set_channel_access.ChannelSettings.{ChannelSettings}
-use Rattle.channel.specs.declared.set_channel_access.CommandAnswer.{CommandAnswer}
-use Rattle.channel.specs.declared.set_channel_access.SettingsAnswer.{SettingsAnswer}
-use Rattle.channel.proofs.set_channel_access.Laws.{command-back, command-iff, pair-reserved, parts-are}
+use Rattle.setting.specs.SetChannelAccess.{applied, command, commandBytes, commandFor, commandOf, pairField, pairOf, partsBytes, saidCommand, saidSettings}
+use Rattle.setting.specs.declared.set_channel_access.AccessPair.{AccessPair}
+use Rattle.setting.specs.declared.set_channel_access.ChannelSettings.{ChannelSettings}
+use Rattle.setting.specs.declared.set_channel_access.CommandAnswer.{CommandAnswer}
+use Rattle.setting.specs.declared.set_channel_access.SettingsAnswer.{SettingsAnswer}
+use Rattle.setting.proofs.set_channel_access.Laws.{command-back, command-iff, pair-reserved, parts-are}
 use Rattle.layouts.specs.Layouts.{accessRecord, setAccessLayout, settingsLayout, settingsRecord}
 use Rattle.layouts.proofs.Laws.{flagged, record-laid, set-access-back, set-laid}
 use Rattle.capi.specs.Settings.{setAccessApplied, setAccessRecord, setAccessRequest}

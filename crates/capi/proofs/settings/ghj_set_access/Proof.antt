@@ -1,6 +1,6 @@
 use borrow.Author.Needs.{needs}
 use mathlib.Core.Path.{sym, _∙_, ap}
-use Rattle.channel.specs.SetChannelAccess.{saidCommand}
+use Rattle.setting.specs.SetChannelAccess.{saidCommand}
 use Rattle.capi.proofs.Laws.{coding, refused-coded}
 use Rattle.capi.proofs.settings.ghj_set_access.Statement.{statement}
 use Rattle.capi.proofs.settings.ghj_set_access.Tie as tie

@@ -1,8 +1,8 @@
 use borrow.Author.Needs.{needs}
-use Rattle.channel.proofs.set_channel_access.SetChannelAccess.numbered.Statement.{
+use Rattle.setting.proofs.set_channel_access.SetChannelAccess.numbered.Statement.{
   statement,
 }
-use Rattle.channel.proofs.set_channel_access.SetChannelAccess.numbered.Tie as tie
+use Rattle.setting.proofs.set_channel_access.SetChannelAccess.numbered.Tie as tie
 
 returns : tie.Need-returns
 returns c = simp (← c .before .before .new .ensures, c .enum-told .given .1)

@@ -2,10 +2,10 @@ use borrow.Author.Needs.{needs}
 use mathlib.Core.Path.{sym, _∙_, ap}
 use lib.ListN.{getD}
 use Rattle.base.specs.Field.{saidField}
-use Rattle.channel.proofs.set_channel_access.Laws.{not-shown, pair-back, set-pair, shown, shown-two}
+use Rattle.setting.proofs.set_channel_access.Laws.{not-shown, pair-back, set-pair, shown, shown-two}
 use native.Mathlib.Omega.{arith}
-use Rattle.channel.proofs.set_channel_access.SetChannelAccess.parts.Statement.{statement}
-use Rattle.channel.proofs.set_channel_access.SetChannelAccess.parts.Tie as tie
+use Rattle.setting.proofs.set_channel_access.SetChannelAccess.parts.Statement.{statement}
+use Rattle.setting.proofs.set_channel_access.SetChannelAccess.parts.Tie as tie
 
 returns : tie.Need-returns
 returns c = rw (← c .before .before .field .ensures, c .enum-told .given .1)

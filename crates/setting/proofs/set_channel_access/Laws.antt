@@ -24,13 +24,13 @@ use Rattle.base.proofs.connection.Laws.{begins-only, channel-iff, channel-small
 use Rattle.base.proofs.field.Laws.{below, bit-small, same, so-long}
 use Rattle.base.proofs.little.Laws.{Bytes, a-byte}
 use Rattle.base.proofs.written.Laws.{filled}
 use Rattle.channel.specs.GetChannelAccess.{accessBytes, accessFields, accessOf, limitField, modeField}
-use Rattle.channel.specs.SetChannelAccess.{command, commandBytes, commandOf, pairs, pairOf, pairField, pairIn, partsBytes}
 use Rattle.channel.specs.declared.get_channel_access.ChannelAccess.{ChannelAccess}
-use Rattle.channel.specs.declared.set_channel_access.AccessPair.{AccessPair}
-use Rattle.channel.specs.declared.set_channel_access.AccessPair.the-variants.{Leave, NonVolatile, Volatile, Reserved}
-use Rattle.channel.specs.declared.set_channel_access.SetChannelAccess.{SetChannelAccess}
 use Rattle.channel.proofs.get_channel_access.Laws.{access-back, access-given, access-only, first, limit-back, limit-given, mode-back, mode-given}
+use Rattle.setting.specs.SetChannelAccess.{command, commandBytes, commandOf, pairs, pairOf, pairField, pairIn, partsBytes}
+use Rattle.setting.specs.declared.set_channel_access.AccessPair.{AccessPair}
+use Rattle.setting.specs.declared.set_channel_access.AccessPair.the-variants.{Leave, NonVolatile, Volatile, Reserved}
+use Rattle.setting.specs.declared.set_channel_access.SetChannelAccess.{SetChannelAccess}
 
 -- Pairs: a number that is read is written again, and what is written is read again.
 

@@ -1,8 +1,8 @@
 use borrow.Author.Needs.{needs}
 use Rattle.base.proofs.written.Laws.{refusing}
 use Rattle.base.specs.declared.refusal.Refusal.the-variants.{NoForm}
-use Rattle.channel.proofs.set_channel_access.SetChannelAccess.write.Statement.{statement}
-use Rattle.channel.proofs.set_channel_access.SetChannelAccess.write.Tie as tie
+use Rattle.setting.proofs.set_channel_access.SetChannelAccess.write.Statement.{statement}
+use Rattle.setting.proofs.set_channel_access.SetChannelAccess.write.Tie as tie
 
 returns : tie.Need-returns
 returns c =

@@ -9,22 +9,22 @@ use Rattle.base.specs.Field.{byte, bits, within}
 use Rattle.base.specs.Outcome.{Outcome, accepted, refused, _>>=_, faultsAs}
 use Rattle.base.specs.Refusal.{refusal}
 use Rattle.base.specs.declared.connection.Channel.{Channel}
 use Rattle.channel.specs.GetChannelAccess.{accessOf, accessBytes}
 use Rattle.channel.specs.declared.get_channel_access.ChannelAccess.{ChannelAccess}
 use Rattle.channel.specs.declared.get_channel_access.ChannelAccessType.{ChannelAccessType}
 use Rattle.channel.specs.declared.get_channel_access.ChannelAccessType.the-variants as Kind
-use Rattle.channel.specs.declared.set_channel_access.AccessPair.{AccessPair}
-use Rattle.channel.specs.declared.set_channel_access.AccessPair.the-variants.{Leave, NonVolatile, Volatile, Reserved}
-use Rattle.channel.specs.declared.set_channel_access.ChannelSettings.{ChannelSettings}
-use Rattle.channel.specs.declared.set_channel_access.CommandAnswer.{CommandAnswer}
-use Rattle.channel.specs.declared.set_channel_access.CommandAnswer.the-variants.{Command, Refused}
-use Rattle.channel.specs.declared.set_channel_access.PairAnswer.{PairAnswer}
-use Rattle.channel.specs.declared.set_channel_access.PairAnswer.the-variants as Pair
-use Rattle.channel.specs.declared.set_channel_access.PartsAnswer.{PartsAnswer}
-use Rattle.channel.specs.declared.set_channel_access.PartsAnswer.the-variants as Parts
-use Rattle.channel.specs.declared.set_channel_access.SetChannelAccess.{SetChannelAccess}
-use Rattle.channel.specs.declared.set_channel_access.SettingsAnswer.{SettingsAnswer}
-use Rattle.channel.specs.declared.set_channel_access.SettingsAnswer.the-variants as Settings
+use Rattle.setting.specs.declared.set_channel_access.AccessPair.{AccessPair}
+use Rattle.setting.specs.declared.set_channel_access.AccessPair.the-variants.{Leave, NonVolatile, Volatile, Reserved}
+use Rattle.setting.specs.declared.set_channel_access.ChannelSettings.{ChannelSettings}
+use Rattle.setting.specs.declared.set_channel_access.CommandAnswer.{CommandAnswer}
+use Rattle.setting.specs.declared.set_channel_access.CommandAnswer.the-variants.{Command, Refused}
+use Rattle.setting.specs.declared.set_channel_access.PairAnswer.{PairAnswer}
+use Rattle.setting.specs.declared.set_channel_access.PairAnswer.the-variants as Pair
+use Rattle.setting.specs.declared.set_channel_access.PartsAnswer.{PartsAnswer}
+use Rattle.setting.specs.declared.set_channel_access.PartsAnswer.the-variants as Parts
+use Rattle.setting.specs.declared.set_channel_access.SetChannelAccess.{SetChannelAccess}
+use Rattle.setting.specs.declared.set_channel_access.SettingsAnswer.{SettingsAnswer}
+use Rattle.setting.specs.declared.set_channel_access.SettingsAnswer.the-variants as Settings
 
 -- each case's outcome
 abbrev pub saidCommand : CommandAnswer → Outcome SetChannelAccess

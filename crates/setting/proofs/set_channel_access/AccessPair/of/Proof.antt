@@ -1,6 +1,6 @@
 use borrow.Author.Needs.{needs}
-use Rattle.channel.proofs.set_channel_access.AccessPair.of.Statement.{statement}
-use Rattle.channel.proofs.set_channel_access.AccessPair.of.Tie as tie
+use Rattle.setting.proofs.set_channel_access.AccessPair.of.Statement.{statement}
+use Rattle.setting.proofs.set_channel_access.AccessPair.of.Tie as tie
 
 returns : tie.Need-returns
 returns c =

@@ -2,9 +2,9 @@ use borrow.Author.Needs.{needs}
 use borrow.Author.Tests.{eq-eqb, le-ltb, lt-ltb, ne-eqb}
 use native.Mathlib.Omega.{arith}
 use lib.ListN.{length}
-use Rattle.channel.proofs.set_channel_access.Laws.{rest}
-use Rattle.channel.proofs.set_channel_access.SetChannelAccess.read.Statement.{statement}
-use Rattle.channel.proofs.set_channel_access.SetChannelAccess.read.Tie as tie
+use Rattle.setting.proofs.set_channel_access.Laws.{rest}
+use Rattle.setting.proofs.set_channel_access.SetChannelAccess.read.Statement.{statement}
+use Rattle.setting.proofs.set_channel_access.SetChannelAccess.read.Tie as tie
 
 returns : tie.Need-returns
 returns c = simp (ne-eqb (length (c .before .before .args .request .now)) 3 (λ h. omega arith))

@@ -1,9 +1,9 @@
 use native.Mathlib.Omega.{arith}
 use borrow.Author.Needs.{needs}
 use mathlib.Core.Path.{sym}
-use Rattle.channel.proofs.set_channel_access.Laws.{pair-reserved}
-use Rattle.channel.proofs.set_channel_access.AccessPair.from.Statement.{statement}
-use Rattle.channel.proofs.set_channel_access.AccessPair.from.Tie as tie
+use Rattle.setting.proofs.set_channel_access.Laws.{pair-reserved}
+use Rattle.setting.proofs.set_channel_access.AccessPair.from.Statement.{statement}
+use Rattle.setting.proofs.set_channel_access.AccessPair.from.Tie as tie
 
 returns-4 : tie.Need-returns-4
 returns-4 c = sym (pair-reserved (c .before .args .value) (omega arith))

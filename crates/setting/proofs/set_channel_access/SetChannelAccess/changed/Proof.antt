@@ -1,6 +1,6 @@
 use borrow.Author.Needs.{needs}
-use Rattle.channel.proofs.set_channel_access.SetChannelAccess.changed.Statement.{statement}
-use Rattle.channel.proofs.set_channel_access.SetChannelAccess.changed.Tie as tie
+use Rattle.setting.proofs.set_channel_access.SetChannelAccess.changed.Statement.{statement}
+use Rattle.setting.proofs.set_channel_access.SetChannelAccess.changed.Tie as tie
 
 returns : tie.Need-returns
 returns c = rw (c .before .chosen .ensures, c .chosen2 .ensures)

@@ -2,10 +2,7 @@
 ghost use mathlib.Core.Path.{_≡_};
 ghost use Rattle.base.specs.Field.{saidField};
 ghost use Rattle.base.specs.Written.{Writes};
-ghost use Rattle.channel.specs.SetChannelAccess.{applied, changed, chosen, commandBytes, commandFor, commandOf, pairField, pairIn, pairOf, partsBytes, saidCommand, saidPair, saidParts, saidSettings, sets};
-use crate::get_channel_access::AccessAnswer;
-use crate::get_channel_access::ChannelAccess;
-use crate::get_channel_access::ChannelAccessType;
+ghost use Rattle.setting.specs.SetChannelAccess.{applied, changed, chosen, commandBytes, commandFor, commandOf, pairField, pairIn, pairOf, partsBytes, saidCommand, saidPair, saidParts, saidSettings, sets};
 use base::connection::Channel;
 use base::connection::ChannelAnswer;
 use base::field::FieldAnswer;
@@ -13,6 +10,9 @@ use base::field::bits;
 use base::refusal::Refusal;
 use base::written::Written;
 use base::written::place;
+use channel::get_channel_access::AccessAnswer;
+use channel::get_channel_access::ChannelAccess;
+use channel::get_channel_access::ChannelAccessType;
 
 // Which of a channel's two settings a part of the command sets: a pair of bits. `Reserved` is the pair 11.
 pub enum AccessPair {

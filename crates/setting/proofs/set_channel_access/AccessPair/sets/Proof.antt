@@ -1,6 +1,6 @@
 use borrow.Author.Needs.{needs}
-use Rattle.channel.proofs.set_channel_access.AccessPair.sets.Statement.{statement}
-use Rattle.channel.proofs.set_channel_access.AccessPair.sets.Tie as tie
+use Rattle.setting.proofs.set_channel_access.AccessPair.sets.Statement.{statement}
+use Rattle.setting.proofs.set_channel_access.AccessPair.sets.Tie as tie
 
 returns : tie.Need-returns
 returns c = rw (c .enum-told .given .1)

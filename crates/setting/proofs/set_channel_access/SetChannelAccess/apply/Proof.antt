@@ -1,6 +1,6 @@
 use borrow.Author.Needs.{needs}
-use Rattle.channel.proofs.set_channel_access.SetChannelAccess.apply.Statement.{statement}
-use Rattle.channel.proofs.set_channel_access.SetChannelAccess.apply.Tie as tie
+use Rattle.setting.proofs.set_channel_access.SetChannelAccess.apply.Statement.{statement}
+use Rattle.setting.proofs.set_channel_access.SetChannelAccess.apply.Tie as tie
 
 returns : tie.Need-returns
 returns c = rw (← c .before .before .parts .ensures, c .enum-told2 .given .1)

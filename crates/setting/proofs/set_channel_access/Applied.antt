@@ -11,18 +11,18 @@ use Rattle.base.specs.Outcome.{Outcome, accepted, refused, _>>=_}
 use Rattle.base.specs.declared.connection.Channel.the-variants.{Numbered}
 use Rattle.base.proofs.Outcome.{apart, steps, Only, only-steps}
 use Rattle.base.proofs.field.Laws.{so-long}
 use Rattle.channel.specs.GetChannelAccess.{accessBytes, limitField, modeField}
-use Rattle.channel.specs.SetChannelAccess.{applied, changed, chosen, command, commandBytes, commandOf, joined, pairOf, partsBytes, sets}
 use Rattle.channel.specs.declared.get_channel_access.ChannelAccess.{ChannelAccess}
 use Rattle.channel.specs.declared.get_channel_access.ChannelAccessMode.the-variants as Mode
 use Rattle.channel.specs.declared.get_channel_access.ChannelAccessType.{ChannelAccessType}
 use Rattle.channel.specs.declared.get_channel_access.ChannelAccessType.the-variants.{NonVolatile, Volatile}
 use Rattle.channel.specs.declared.get_channel_access.ChannelPrivilegeLevel.the-variants as Level
-use Rattle.channel.specs.declared.set_channel_access.AccessPair.the-variants as Pair
-use Rattle.channel.specs.declared.set_channel_access.ChannelSettings.{ChannelSettings}
-use Rattle.channel.specs.declared.set_channel_access.SetChannelAccess.{SetChannelAccess}
 use Rattle.channel.proofs.get_channel_access.Laws.{first}
-use Rattle.channel.proofs.set_channel_access.Laws.{pair-back, parts-are, parts-only, shown-two}
+use Rattle.setting.specs.SetChannelAccess.{applied, changed, chosen, command, commandBytes, commandOf, joined, pairOf, partsBytes, sets}
+use Rattle.setting.specs.declared.set_channel_access.AccessPair.the-variants as Pair
+use Rattle.setting.specs.declared.set_channel_access.ChannelSettings.{ChannelSettings}
+use Rattle.setting.specs.declared.set_channel_access.SetChannelAccess.{SetChannelAccess}
+use Rattle.setting.proofs.set_channel_access.Laws.{pair-back, parts-are, parts-only, shown-two}
 
 -- the setting that a Get of either kind asks for
 abbrev pub settingOf : ChannelAccessType → ChannelSettings → ChannelAccess
