@@ -59,6 +59,9 @@ number4-unique κs a ok z z′ w w′ q q′ = (both q q′, refl)
 pub bytes4-unique : Unique p.little.bytes4.Kinds.ps p.little.bytes4.Kinds.r p.little.bytes4.Reads.Asked p.little.bytes4.Reads.Learnt
 bytes4-unique κs a ok z z′ w w′ q q′ = (both q q′, refl)
 
+pub bytes8-unique : Unique p.little.bytes8.Kinds.ps p.little.bytes8.Kinds.r p.little.bytes8.Reads.Asked p.little.bytes8.Reads.Learnt
+bytes8-unique κs a ok z z′ w w′ q q′ = (both q q′, refl)
+
 pub number3-unique : Unique p.little.number3.Kinds.ps p.little.number3.Kinds.r p.little.number3.Reads.Asked p.little.number3.Reads.Learnt
 number3-unique κs a ok z z′ w w′ q q′ = (both q q′, refl)
 

@@ -1,4 +1,4 @@
-// The refusals of document 01, by the names it gives them.
+// The refusals of documents 01 and 02, by the names that these give them.
 ghost use mathlib.Core.Path.{_≡_};
 ghost use Rattle.base.specs.Field.{byte};
 ghost use Rattle.base.specs.Refusal.{row};
@@ -18,10 +18,11 @@ pub enum Refusal {
     Disagrees,
     Incomplete(u8),
     BadLine,
+    BadRecord(usize),
 }
 
 impl Refusal {
-    // The number in document 01's table.
+    // The number in document 01's table, or a later request's.
     pub fn number(self) -> u8
         ensures { λ r. ⌜ r ≡ row self .0 ⌝ }
     {
@@ -40,19 +41,20 @@ impl Refusal {
             Refusal::Disagrees => 12,
             Refusal::Incomplete(_) => 13,
             Refusal::BadLine => 14,
+            Refusal::BadRecord(_) => 16,
         }
     }
 
-    // The byte that it carries, 0 where it carries none.
-    pub fn carried(self) -> u8
+    // The byte or place that it carries, 0 where it carries none.
+    pub fn carried(self) -> usize
         ensures { λ r. ⌜ r ≡ byte 0 (row self .1) ⌝ }
     {
         match self {
             Refusal::NotEnoughData => 0,
             Refusal::TooMuchData => 0,
             Refusal::InvalidZeroSession => 0,
-            Refusal::InvalidAuthType(byte) => byte,
-            Refusal::InvalidPrivilegeLevel(byte) => byte,
+            Refusal::InvalidAuthType(byte) => byte as usize,
+            Refusal::InvalidPrivilegeLevel(byte) => byte as usize,
             Refusal::NoChannel => 0,
             Refusal::BadIndex => 0,
             Refusal::LongName => 0,
@@ -60,8 +62,9 @@ impl Refusal {
             Refusal::NotARequest => 0,
             Refusal::NoRoom => 0,
             Refusal::Disagrees => 0,
-            Refusal::Incomplete(index) => index,
+            Refusal::Incomplete(index) => index as usize,
             Refusal::BadLine => 0,
+            Refusal::BadRecord(place) => place,
         }
     }
 }

@@ -1,6 +1,6 @@
 -- What an answer comes to as a number.
 use mathlib.Core.Path.{_≡_, refl, _∙_, ap}
-use mathlib.Core.List.{List}
+use mathlib.Core.List.{List, []}
 use mathlib.Core.Option.{Option, none, some}
 use Prim.Native.Nat.{ℕ, zero, suc}
 use native.Mathlib.Omega.{arith}
@@ -14,7 +14,7 @@ use Rattle.base.specs.declared.refusal.Refusal.{Refusal}
 use Rattle.base.specs.declared.verdict.Verdict.{Verdict}
 use Rattle.base.specs.declared.written.Written.the-variants as Written
 use Rattle.base.proofs.Named.{nothing}
-use Rattle.base.proofs.written.Laws.{refusing}
+use Rattle.base.proofs.written.Laws.{fitting, refusing}
 use Rattle.capi.specs.Number.{Codes, CodesAny, Takes, code, noneBit, plain}
 use Rattle.capi.specs.Requests.{kinds}
 use Rattle.collector.specs.declared.Collector.{Collector}
@@ -37,6 +37,10 @@ taking-coded {taken} e g = record { answers = e ∙ ap (λ x. code (plain x)) (g
 -- a message that is refused, as a number
 pub refused-coded : {message : Outcome (List ℕ)} (r : Refusal) {n : ℕ} (buffer : List ℕ) → message ≡ refusal r → n ≡ code (refusal r) → Codes message n buffer buffer
 refused-coded r buffer m e = coding {w = Written.Refused r} e (refusing r buffer m)
+
+-- a message of no bytes
+pub empty-coded : {message : Outcome (List ℕ)} {buffer : List ℕ} → message ≡ accepted [] → Codes message 0 buffer buffer
+empty-coded {buffer} e = rw e (coding {w = Written.Length 0} refl (fitting [] buffer (omega arith)))
 
 -- a message that may be none
 

@@ -143,3 +143,26 @@ ghj-set-access-unique κs a ok z z′ w w′ q q′ = coder q q′
 
 pub ghj-set-access-apply-unique : Unique p.settings.ghj_set_access_apply.Kinds.ps p.settings.ghj_set_access_apply.Kinds.r p.settings.ghj_set_access_apply.Reads.Asked p.settings.ghj_set_access_apply.Reads.Learnt
 ghj-set-access-apply-unique κs a ok z z′ w w′ q q′ = coder5 q q′
+
+-- the buffer the last of seven
+pub coder7 : {message : Outcome (List ℕ)} {n n′ : ℕ} {before after after′ : List ℕ} → Codes message n before after → Codes message n′ before after′
+    → (n ≡ n′) × (_≡_ {A = Unit {0} × (Unit {0} × (Unit {0} × (Unit {0} × (Unit {0} × (Unit {0} × (List ℕ × Unit {0}))))))} (tt, (tt, (tt, (tt, (tt, (tt, (after, tt))))))) (tt, (tt, (tt, (tt, (tt, (tt, (after′, tt))))))))
+coder7 q q′ = (both (q .answers) (q′ .answers), ap (λ x. (tt, (tt, (tt, (tt, (tt, (tt, (x, tt)))))))) (both (q .leaves) (q′ .leaves)))
+
+pub ghj-tagged-step-unique : Unique p.tagged_records.ghj_tagged_step.Kinds.ps p.tagged_records.ghj_tagged_step.Kinds.r p.tagged_records.ghj_tagged_step.Reads.Asked p.tagged_records.ghj_tagged_step.Reads.Learnt
+ghj-tagged-step-unique κs a ok z z′ w w′ q q′ = coder3 q q′
+
+pub ghj-tagged-count-unique : Unique p.tagged_records.ghj_tagged_count.Kinds.ps p.tagged_records.ghj_tagged_count.Kinds.r p.tagged_records.ghj_tagged_count.Reads.Asked p.tagged_records.ghj_tagged_count.Reads.Learnt
+ghj-tagged-count-unique κs a ok z z′ w w′ q q′ = (both q q′, refl)
+
+pub ghj-tagged-numbers-unique : Unique p.tagged_records.ghj_tagged_numbers.Kinds.ps p.tagged_records.ghj_tagged_numbers.Kinds.r p.tagged_records.ghj_tagged_numbers.Reads.Asked p.tagged_records.ghj_tagged_numbers.Reads.Learnt
+ghj-tagged-numbers-unique κs a ok z z′ w w′ q q′ = coder q q′
+
+pub ghj-tagged-listing-unique : Unique p.tagged_records.ghj_tagged_listing.Kinds.ps p.tagged_records.ghj_tagged_listing.Kinds.r p.tagged_records.ghj_tagged_listing.Reads.Asked p.tagged_records.ghj_tagged_listing.Reads.Learnt
+ghj-tagged-listing-unique κs a ok z z′ w w′ q q′ = coder q q′
+
+pub ghj-tagged-algorithms-unique : Unique p.tagged_records.ghj_tagged_algorithms.Kinds.ps p.tagged_records.ghj_tagged_algorithms.Kinds.r p.tagged_records.ghj_tagged_algorithms.Reads.Asked p.tagged_records.ghj_tagged_algorithms.Reads.Learnt
+ghj-tagged-algorithms-unique κs a ok z z′ w w′ q q′ = coder q q′
+
+pub ghj-tagged-write-unique : Unique p.tagged_records.ghj_tagged_write.Kinds.ps p.tagged_records.ghj_tagged_write.Kinds.r p.tagged_records.ghj_tagged_write.Reads.Asked p.tagged_records.ghj_tagged_write.Reads.Learnt
+ghj-tagged-write-unique κs a ok z z′ w w′ q q′ = coder7 q q′

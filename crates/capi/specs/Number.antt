@@ -1,8 +1,9 @@
 -- The number that a C function returns.
-use Prim.Native.Nat.{ℕ, _+_, _*_, _^_}
+use Prim.Native.Nat.{ℕ, _+_, _-_, _*_, _^_}
 use mathlib.Core.Path.{_≡_}
 use mathlib.Core.List.{List}
 use mathlib.Core.Option.{Option, none, some}
+use Rattle.base.specs.Choice.{if_then_else_, _<?_}
 use Rattle.base.specs.Field.{byte}
 use Rattle.base.specs.Outcome.{Outcome, accepted, refused}
 use Rattle.base.specs.Verdict.{recordOf}
@@ -14,10 +15,19 @@ use Rattle.collector.specs.declared.Collector.{Collector}
 abbrev pub refusedBit : ℕ
 refusedBit = 2 ^ 63
 
--- what was accepted; or the top bit, the refusal's number in the low byte, and above that the byte that it carries
+-- the most that fits between the top bit and the low byte. No list is as long: no machine has as much memory
+abbrev pub carriedLimit : ℕ
+carriedLimit = 2 ^ 55 - 1
+
+-- the smaller of two numbers
+abbrev pub atMost : ℕ → ℕ → ℕ
+atMost limit n = if limit <? n then limit else n
+
+-- what was accepted; or the top bit, the refusal's number in the low byte, and above that the byte or place that it carries:
+-- the limit says that the place is at least so far
 abbrev pub code : Outcome ℕ → ℕ
 code (accepted n) = n
-code (refused number carried) = refusedBit + number + 256 * byte 0 carried
+code (refused number carried) = refusedBit + number + 256 * atMost carriedLimit (byte 0 carried)
 
 -- a verdict alone: 0 where it is accepted
 abbrev pub plain : {A : Type 0} → Outcome A → Outcome ℕ

@@ -39,6 +39,7 @@ pub mod requests;
 pub mod settings;
 pub mod strength;
 pub mod table;
+pub mod tagged_records;
 
 // A number above every length.
 const REFUSED: u64 = 0x8000_0000_0000_0000;
@@ -49,10 +50,18 @@ const MISSING: u64 = 0x1_0000;
 // Document 01's "answers none": above every number of a status.
 const NONE: u64 = 0x2_0000;
 
+// The most that fits above a refusal's number: a place beyond it counts as this one.
+const CARRIED_LIMIT: usize = 0x7F_FFFF_FFFF_FFFF;
+
 fn refused(refusal: Refusal) -> u64
     ensures { λ r. ⌜ r ≡ code (spec.refusal refusal) ⌝ }
 {
-    REFUSED + (refusal.number() as u64) + 256 * (refusal.carried() as u64)
+    let number = REFUSED + (refusal.number() as u64);
+    let carried = refusal.carried();
+    if CARRIED_LIMIT < carried {
+        return number + 256 * (CARRIED_LIMIT as u64);
+    }
+    number + 256 * (carried as u64)
 }
 
 fn code(written: Written) -> u64

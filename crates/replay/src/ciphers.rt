@@ -155,7 +155,8 @@ fn response_written(data: &[u8], out: &mut [u8]) -> usize {
     }
 }
 
-fn numbers(suites: &[u8], before: usize, out: &mut [u8]) -> usize {
+// Numbers, a space before each.
+pub(crate) fn numbers(suites: &[u8], before: usize, out: &mut [u8]) -> usize {
     let mut at = before;
     for i in 0..suites.len() {
         at = carried(suites[i], at, out);

@@ -1,5 +1,5 @@
 // Answers the questions on standard input from the port, a line each, as tests/oracle answers them from the Rust and
-// tests/model those on Set Channel Access.
+// tests/model those on Set Channel Access and on records with tags.
 ghost use Prim.Native.Nat.{_<_};
 use crate::question::answer;
 use libc::STDIN_FILENO;
@@ -13,6 +13,7 @@ mod put;
 mod question;
 mod sessions;
 mod settings;
+mod tagged_records;
 
 // More than an answer and its newline take.
 const ROOM: usize = 8192;

@@ -54,6 +54,7 @@ pub(crate) fn refused(refusal: Refusal, out: &mut [u8]) -> usize {
         Refusal::InvalidAuthType(byte) => carried(byte, at, out),
         Refusal::InvalidPrivilegeLevel(byte) => carried(byte, at, out),
         Refusal::Incomplete(index) => carried(index, at, out),
+        Refusal::BadRecord(place) => number(b" ", place as u64, at, out),
         _ => at,
     }
 }
@@ -89,8 +90,9 @@ fn pair(byte: u8, at: usize, out: &mut [u8]) -> usize {
     copied(written, &digits, at, out)
 }
 
-fn pairs(bytes: &[u8], out: &mut [u8]) -> usize {
-    let mut at: usize = 0;
+// Bytes as hex pairs, each behind a space but at the start.
+pub(crate) fn pairs(bytes: &[u8], before: usize, out: &mut [u8]) -> usize {
+    let mut at = before;
     for i in 0..bytes.len() {
         at = pair(bytes[i], at, out);
     }
@@ -100,7 +102,7 @@ fn pairs(bytes: &[u8], out: &mut [u8]) -> usize {
 // Bytes as hex pairs, behind what is there.
 pub(crate) fn pairs_at(bytes: &[u8], at: usize, out: &mut [u8]) -> usize {
     let mut words = [0u8; 64];
-    let n = pairs(bytes, &mut words);
+    let n = pairs(bytes, 0, &mut words);
     copied(Written::Length(n), &words, at, out)
 }
 
@@ -117,7 +119,7 @@ pub(crate) fn hex(written: Written, message: &[u8], out: &mut [u8]) -> usize {
             if message.len() < n {
                 return 0;
             }
-            pairs(&message[0..n], out)
+            pairs(&message[0..n], 0, out)
         }
         Written::Refused(refusal) => refused(refusal, out),
     }

@@ -7,6 +7,7 @@ use crate::leaves::answer_leaf;
 use crate::put::text;
 use crate::sessions::answer_session;
 use crate::settings::answer_settings;
+use crate::tagged_records::answer_tagged;
 use base::written::Written;
 use lines::read_pairs;
 
@@ -42,6 +43,10 @@ fn asked(word: &[u8], bytes: &[u8], out: &mut [u8]) -> usize {
         return n;
     }
     let n = answer_settings(word, bytes, out);
+    if n != 0 {
+        return n;
+    }
+    let n = answer_tagged(word, bytes, out);
     if n != 0 {
         return n;
     }

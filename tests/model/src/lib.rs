@@ -1,9 +1,10 @@
 //! A model of the collector, made from the demand and from nothing of the port:
 //! what does a fresh collector say of a history of answers? And one of Set
-//! Channel Access, made likewise.
+//! Channel Access and one of records with tags, made likewise.
 
 pub mod collector;
 pub mod history;
+pub mod records;
 pub mod settings;
 mod text;
 
@@ -20,8 +21,10 @@ const MILLION: u32 = 1 << 20;
 
 /// The models' answer to a line, which comes without its newline.
 pub fn answer(line: &[u8]) -> String {
-    let set = text::read(line).and_then(|(word, data)| settings::answer(word, &data));
-    set.unwrap_or_else(|| answer_by::<Collector>(line))
+    let other = text::read(line).and_then(|(word, data)| {
+        settings::answer(word, &data).or_else(|| records::answer(word, &data))
+    });
+    other.unwrap_or_else(|| answer_by::<Collector>(line))
 }
 
 /// The answer of any collector.

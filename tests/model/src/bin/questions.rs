@@ -1,6 +1,7 @@
 //! Writes the list of questions on the collector, a line each; with the word
 //! `million`, those of a million random histories instead; with the word
-//! `settings`, the list on Set Channel Access.
+//! `settings`, the list on Set Channel Access; with the word `records`, the one
+//! on records with tags.
 
 use std::io::{self, BufWriter, Write};
 
@@ -10,7 +11,12 @@ fn main() -> io::Result<()> {
         [] => collector_model::questions(),
         ["million"] => collector_model::million(),
         ["settings"] => collector_model::settings::questions(),
-        _ => return Err(io::Error::other("usage: questions [million|settings]")),
+        ["records"] => collector_model::records::questions(),
+        _ => {
+            return Err(io::Error::other(
+                "usage: questions [million|settings|records]",
+            ))
+        }
     };
     let mut output = BufWriter::new(io::stdout().lock());
     for question in list {

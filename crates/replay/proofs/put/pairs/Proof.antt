@@ -6,10 +6,10 @@ use Rattle.replay.proofs.put.pairs.Statement.{statement}
 use Rattle.replay.proofs.put.pairs.Tie as tie
 
 abbrev Inv-loop : tie.InvT-loop
-Inv-loop bytes out₀ at₀ i₀ i-end out at i = length out ≡ length out₀
+Inv-loop bytes before out₀ at₀ i₀ i-end out at i = length out ≡ length out₀
 
 abbrev μ-loop : tie.MeasureT-loop
-μ-loop bytes out₀ at₀ i₀ i-end out at i = i-end - i
+μ-loop bytes before out₀ at₀ i₀ i-end out at i = i-end - i
 
 pub pairs-spec : {M : Type 1} → statement M
 pairs-spec =
