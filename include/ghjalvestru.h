@@ -1,5 +1,6 @@
 /* Ghjalvestru from C: readers of IPMI channel and session answers, writers of their requests, texts, a channel's settings
- * after a Set Channel Access, the table of cipher suites and the collector of a list of them.
+ * after a Set Channel Access, the table of cipher suites, the collector of a list of them, and the strict reading and
+ * writing of such a list's records.
  *
  * Every function takes any bytes and any numbers. A pair `const uint8_t *x, size_t x_length` is a slice, which may be
  * empty; its pointer is never null. Slices that are written to and other slices do not overlap.
@@ -17,10 +18,10 @@
 extern "C" {
 #endif
 
-/* Is this number a refusal? Which one, and what byte does it carry? */
+/* Is this number a refusal? Which one, and what does it carry: a byte, or a place of up to 55 bits, as a uint64_t? */
 #define GHJ_IS_REFUSED(number) (((number) >> 63) != 0)
 #define GHJ_REFUSAL(number) ((unsigned)((number) & 0xFF))
-#define GHJ_CARRIED(number) ((unsigned)(((number) >> 8) & 0xFF))
+#define GHJ_CARRIED(number) (((uint64_t)(number) & ~((uint64_t)1 << 63)) >> 8)
 
 enum ghj_refusal {
     GHJ_NOT_ENOUGH_DATA = 1,
@@ -36,7 +37,8 @@ enum ghj_refusal {
     GHJ_NO_ROOM = 11,
     GHJ_DISAGREES = 12,
     GHJ_INCOMPLETE = 13, /* carries the lowest unheard index */
-    GHJ_BAD_LINE = 14
+    GHJ_BAD_LINE = 14,
+    GHJ_BAD_RECORD = 16 /* carries the place; one above 2^55 - 1 counts as 2^55 - 1 */
 };
 
 /* No type, row or suite: "answers none, which counts as accepted". */
@@ -146,6 +148,50 @@ uint64_t ghj_suite_step(const uint8_t *list, size_t list_length, size_t *positio
 
 /* The numbers of the suites of a whole list, a byte each, up to the first step of the reading that gives none. */
 uint64_t ghj_suite_numbers(const uint8_t *list, size_t list_length, uint8_t *out, size_t out_length);
+
+/* Records with tags: a list of suites read strictly, by the standard's format. A record is C0h and a suite number, or
+ * C1h, a number and a vendor number (three bytes, low first); then one authentication byte with the top bits 00, any
+ * integrity bytes with 01, any confidentiality bytes with 10. The six bits below are an algorithm's number. Exactly the
+ * sequences of such records are accepted, the empty one too. GHJ_BAD_RECORD carries the place of the first byte from
+ * which no continuation gives such a sequence, or the length if only the end is missing. */
+
+/* The record at a position, 32 bytes: number; 0 for a standard suite or 1 for a vendor's own; vendor number (three bytes,
+ * low first, zeros for a standard suite); authentication number; two zeros; then three places in the list, each in eight
+ * bytes, low first: where its integrity bytes begin, where these end and its confidentiality bytes begin, and where these
+ * end. There the next record begins or the list ends, which the next step says. At the end of the list or past it the
+ * number is 0, and nothing is written. GHJ_BAD_RECORD, then GHJ_NO_ROOM. */
+uint64_t ghj_tagged_step(const uint8_t *list, size_t list_length, size_t position, uint8_t *out, size_t out_length);
+
+/* These 32 bytes on a machine that keeps the low byte first: there the struct can be lent as `out`. */
+struct ghj_tagged_record {
+    uint8_t number;
+    uint8_t own;
+    uint8_t vendor[3];
+    uint8_t authentication;
+    uint8_t zeros[2];
+    uint64_t integrity;
+    uint64_t confidentiality;
+    uint64_t end;
+};
+
+/* How many records the list has, or GHJ_BAD_RECORD. */
+uint64_t ghj_tagged_count(const uint8_t *list, size_t list_length);
+
+/* The suite numbers of all records in order, a byte each: GHJ_BAD_RECORD, then GHJ_NO_ROOM. */
+uint64_t ghj_tagged_numbers(const uint8_t *list, size_t list_length, uint8_t *out, size_t out_length);
+
+/* The same with whose suites they are, five bytes each: the first five of the record above. */
+uint64_t ghj_tagged_listing(const uint8_t *list, size_t list_length, uint8_t *out, size_t out_length);
+
+/* The numbers of algorithm bytes, a byte each. Those of a record lie between its places. */
+uint64_t ghj_tagged_algorithms(const uint8_t *bytes, size_t bytes_length, uint8_t *out, size_t out_length);
+
+/* A record's bytes, the algorithms given by their numbers. GHJ_NO_FORM where owner is neither 0, a standard suite, with
+ * vendor 0, nor 1, a vendor's own, where vendor is 2^24 or more, or where an algorithm's number is above 63; then
+ * GHJ_NO_ROOM. */
+uint64_t ghj_tagged_write(uint8_t owner, uint32_t vendor, uint8_t number, uint8_t authentication,
+                          const uint8_t *integrity, size_t integrity_length, const uint8_t *confidentiality,
+                          size_t confidentiality_length, uint8_t *out, size_t out_length);
 
 /* The collector: joins a list that arrives sixteen bytes at a time. A fresh one is all zeros. */
 struct ghj_collector {

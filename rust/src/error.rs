@@ -33,35 +33,22 @@ pub enum Error {
     Incomplete(u8),
     /// A line that cannot be read.
     BadLine,
+    /// A list is no sequence of records: the place of the first byte from which no continuation gives one, or the length if
+    /// only the end is missing.
+    BadRecord(usize),
 }
 
-/// From the first refusal's number, which is 1, up.
-const NAMES: [&str; 14] = [
-    "NotEnoughData",
-    "TooMuchData",
-    "InvalidZeroSession",
-    "InvalidAuthType",
-    "InvalidPrivilegeLevel",
-    "NoChannel",
-    "BadIndex",
-    "LongName",
-    "NoForm",
-    "NotARequest",
-    "NoRoom",
-    "Disagrees",
-    "Incomplete",
-    "BadLine",
-];
-
 impl Error {
-    /// The refusal of a number and of the byte that it carries.
-    pub(crate) fn from_number(number: u8, carried: u8) -> Option<Self> {
+    /// The refusal of a number and of what it carries.
+    pub(crate) fn from_number(number: u8, carried: u64) -> Option<Self> {
+        // Where a byte is carried, there is no more than that.
+        let byte = carried as u8;
         Some(match number {
             1 => Self::NotEnoughData,
             2 => Self::TooMuchData,
             3 => Self::InvalidZeroSession,
-            4 => Self::InvalidAuthType(carried),
-            5 => Self::InvalidPrivilegeLevel(carried),
+            4 => Self::InvalidAuthType(byte),
+            5 => Self::InvalidPrivilegeLevel(byte),
             6 => Self::NoChannel,
             7 => Self::BadIndex,
             8 => Self::LongName,
@@ -69,43 +56,51 @@ impl Error {
             10 => Self::NotARequest,
             11 => Self::NoRoom,
             12 => Self::Disagrees,
-            13 => Self::Incomplete(carried),
+            13 => Self::Incomplete(byte),
             14 => Self::BadLine,
+            16 => Self::BadRecord(carried as usize),
             _ => return None,
         })
     }
 
-    /// The refusal's number, from 1 to 14.
-    pub fn number(&self) -> u8 {
+    /// Its number and its name.
+    fn row(&self) -> (u8, &'static str) {
         match self {
-            Self::NotEnoughData => 1,
-            Self::TooMuchData => 2,
-            Self::InvalidZeroSession => 3,
-            Self::InvalidAuthType(_) => 4,
-            Self::InvalidPrivilegeLevel(_) => 5,
-            Self::NoChannel => 6,
-            Self::BadIndex => 7,
-            Self::LongName => 8,
-            Self::NoForm => 9,
-            Self::NotARequest => 10,
-            Self::NoRoom => 11,
-            Self::Disagrees => 12,
-            Self::Incomplete(_) => 13,
-            Self::BadLine => 14,
+            Self::NotEnoughData => (1, "NotEnoughData"),
+            Self::TooMuchData => (2, "TooMuchData"),
+            Self::InvalidZeroSession => (3, "InvalidZeroSession"),
+            Self::InvalidAuthType(_) => (4, "InvalidAuthType"),
+            Self::InvalidPrivilegeLevel(_) => (5, "InvalidPrivilegeLevel"),
+            Self::NoChannel => (6, "NoChannel"),
+            Self::BadIndex => (7, "BadIndex"),
+            Self::LongName => (8, "LongName"),
+            Self::NoForm => (9, "NoForm"),
+            Self::NotARequest => (10, "NotARequest"),
+            Self::NoRoom => (11, "NoRoom"),
+            Self::Disagrees => (12, "Disagrees"),
+            Self::Incomplete(_) => (13, "Incomplete"),
+            Self::BadLine => (14, "BadLine"),
+            Self::BadRecord(_) => (16, "BadRecord"),
         }
+    }
+
+    /// The refusal's number: from 1 to 14, or 16.
+    pub fn number(&self) -> u8 {
+        self.row().0
     }
 
     /// The refusal's name, as the variant's.
     pub fn name(&self) -> &'static str {
-        NAMES[usize::from(self.number()) - 1]
+        self.row().1
     }
 
-    /// The byte that was refused or, of [`Error::Incomplete`], the lowest unheard index.
-    pub fn carried(&self) -> Option<u8> {
-        match self {
+    /// The byte that was refused, of [`Error::Incomplete`] the lowest unheard index, of [`Error::BadRecord`] the place.
+    pub fn carried(&self) -> Option<usize> {
+        match *self {
             Self::InvalidAuthType(byte)
             | Self::InvalidPrivilegeLevel(byte)
-            | Self::Incomplete(byte) => Some(*byte),
+            | Self::Incomplete(byte) => Some(byte.into()),
+            Self::BadRecord(place) => Some(place),
             _ => None,
         }
     }
@@ -114,9 +109,10 @@ impl Error {
 impl fmt::Display for Error {
     fn fmt(&self, f: &mut fmt::Formatter<'_>) -> fmt::Result {
         write!(f, "refused {} ({}", self.number(), self.name())?;
-        match self.carried() {
-            Some(byte) => write!(f, ", 0x{byte:02X})"),
-            None => write!(f, ")"),
+        match (self, self.carried()) {
+            (Self::BadRecord(place), _) => write!(f, ", at {place})"),
+            (_, Some(byte)) => write!(f, ", 0x{byte:02X})"),
+            (_, None) => write!(f, ")"),
         }
     }
 }
@@ -126,19 +122,22 @@ impl std::error::Error for Error {}
 #[cfg(test)]
 mod tests {
     use super::*;
+    use crate::number::accepted;
+    use crate::sys::REFUSED;
 
     #[test]
     fn numbers_and_names_are_those_of_the_variants() {
-        for number in 1..=14 {
+        for number in (1..=14).chain([16]) {
             let error = Error::from_number(number, 0xA5).unwrap();
             assert_eq!(error.number(), number);
             let shown = format!("{error:?}");
             let name = shown.strip_suffix("(165)").unwrap_or(&shown);
             assert_eq!(error.name(), name);
-            assert_eq!(error.carried().is_some(), name != shown);
+            assert_eq!(error.carried(), (name != shown).then_some(0xA5));
         }
-        assert_eq!(Error::from_number(0, 0), None);
-        assert_eq!(Error::from_number(15, 0), None);
+        for number in [0, 15].into_iter().chain(17..=u8::MAX) {
+            assert_eq!(Error::from_number(number, 0), None);
+        }
     }
 
     #[test]
@@ -146,5 +145,24 @@ mod tests {
         let error: Box<dyn std::error::Error> = Error::InvalidAuthType(3).into();
         assert_eq!(error.to_string(), "refused 4 (InvalidAuthType, 0x03)");
         assert_eq!(Error::NoRoom.to_string(), "refused 11 (NoRoom)");
+        assert_eq!(
+            Error::BadRecord(1024).to_string(),
+            "refused 16 (BadRecord, at 1024)"
+        );
+    }
+
+    /// A place has 55 bits in C's number.
+    #[test]
+    fn places() {
+        for place in [0, 1, 0xFF, 0x100, 0x12345, (1 << 55) - 1] {
+            assert_eq!(
+                accepted(REFUSED + 16 + ((place as u64) << 8)),
+                Err(Error::BadRecord(place))
+            );
+        }
+        assert_eq!(
+            accepted(REFUSED + 13 + (63 << 8)),
+            Err(Error::Incomplete(63))
+        );
     }
 }

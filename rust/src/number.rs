@@ -12,8 +12,8 @@ pub fn accepted(number: u64) -> Result<u64, Error> {
     if number < REFUSED {
         return Ok(number);
     }
-    let [refusal, carried, ..] = number.to_le_bytes();
-    match Error::from_number(refusal, carried) {
+    let [refusal, ..] = number.to_le_bytes();
+    match Error::from_number(refusal, (number - REFUSED) >> 8) {
         Some(error) => Err(error),
         None => ruled_out(&number),
     }

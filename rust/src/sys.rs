@@ -15,6 +15,10 @@ pub const SETTINGS: usize = 2 * ACCESS;
 pub const CAPACITY: usize = 1024;
 /// How many parts a collector holds.
 pub const PARTS: usize = 64;
+/// How many bytes [`tagged_step`] writes of a record.
+pub const TAGGED: usize = 32;
+/// How many bytes [`tagged_listing`] writes for each record.
+pub const LISTED: usize = 5;
 
 /// Set in a number that is a refusal.
 pub const REFUSED: u64 = 1 << 63;
@@ -57,6 +61,12 @@ from_bytes! {
     suites = ghj_suites;
     /// The numbers of the suites of a whole list.
     suite_numbers = ghj_suite_numbers;
+    /// The suite numbers of a list that is read strictly, a byte for each record.
+    tagged_numbers = ghj_tagged_numbers;
+    /// The same with whose suites they are, [`LISTED`] bytes for each record.
+    tagged_listing = ghj_tagged_listing;
+    /// The numbers of algorithm bytes.
+    tagged_algorithms = ghj_tagged_algorithms;
 }
 
 /// Functions from numbers to bytes.
@@ -219,6 +229,70 @@ pub fn suite_step(list: &[u8], position: &mut usize, failed: &mut u8) -> u64 {
     // SAFETY: the pointer goes with its slice's length; the references are C's to use for this call. Any position is
     // allowed, one past the end too.
     unsafe { ghj_suite_step(list.as_ptr(), list.len(), position, failed) }
+}
+
+unsafe extern "C" {
+    fn ghj_tagged_step(
+        list: *const u8,
+        list_length: usize,
+        position: usize,
+        out: *mut u8,
+        out_length: usize,
+    ) -> u64;
+    fn ghj_tagged_count(list: *const u8, list_length: usize) -> u64;
+    fn ghj_tagged_write(
+        owner: u8,
+        vendor: u32,
+        number: u8,
+        authentication: u8,
+        integrity: *const u8,
+        integrity_length: usize,
+        confidentiality: *const u8,
+        confidentiality_length: usize,
+        out: *mut u8,
+        out_length: usize,
+    ) -> u64;
+}
+
+/// The record at a position of a list that is read strictly; 0 at its end or past it.
+pub fn tagged_step(list: &[u8], position: usize, out: &mut [u8]) -> u64 {
+    let (start, length) = (out.as_mut_ptr(), out.len());
+    // SAFETY: each pointer goes with its slice's length, and `out` is lent to this call alone. Any position is allowed, one
+    // past the end too.
+    unsafe { ghj_tagged_step(list.as_ptr(), list.len(), position, start, length) }
+}
+
+/// How many records a list has that is read strictly.
+pub fn tagged_count(list: &[u8]) -> u64 {
+    // SAFETY: the pointer goes with its slice's length.
+    unsafe { ghj_tagged_count(list.as_ptr(), list.len()) }
+}
+
+/// The bytes of a record; the owner is 0 for a standard suite, with the vendor 0, and 1 for a vendor's own.
+pub fn tagged_write(
+    owner: u8,
+    vendor: u32,
+    number: u8,
+    authentication: u8,
+    integrity: &[u8],
+    confidentiality: &[u8],
+    out: &mut [u8],
+) -> u64 {
+    // SAFETY: each pointer goes with its slice's length, and `out` is lent to this call alone.
+    unsafe {
+        ghj_tagged_write(
+            owner,
+            vendor,
+            number,
+            authentication,
+            integrity.as_ptr(),
+            integrity.len(),
+            confidentiality.as_ptr(),
+            confidentiality.len(),
+            out.as_mut_ptr(),
+            out.len(),
+        )
+    }
 }
 
 unsafe extern "C" {

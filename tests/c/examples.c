@@ -1,4 +1,4 @@
-/* The examples of the scope document that the C functions can say, and the header's own words. */
+/* The examples of the scope document and of later requests that the C functions can say, and the header's own words. */
 #include "ghjalvestru.h"
 
 #include <stdio.h>
@@ -13,7 +13,7 @@ static void check(const char *what, int holds) {
     }
 }
 
-static int refused(uint64_t number, unsigned refusal, unsigned carried) {
+static int refused(uint64_t number, unsigned refusal, uint64_t carried) {
     return GHJ_IS_REFUSED(number) && GHJ_REFUSAL(number) == refusal && GHJ_CARRIED(number) == carried;
 }
 
@@ -105,7 +105,7 @@ static void writes(const char *what, uint64_t (*write)(uint8_t *, size_t), const
 }
 
 /* The refusal comes before any lack of room. */
-static void refuses(const char *what, uint64_t number, unsigned refusal, unsigned carried) {
+static void refuses(const char *what, uint64_t number, unsigned refusal, uint64_t carried) {
     check(what, refused(number, refusal, carried));
 }
 
@@ -299,6 +299,106 @@ static void lists(void) {
     step("step", unknown, 3, 2, 0, GHJ_NONE, 3, 0);
 }
 
+/* Records with tags: suite 3, and what vendor 7154 calls suite 80h, of two integrity algorithms and no confidentiality. */
+static const uint8_t records[13] = {0xC0, 0x03, 0x01, 0x41, 0x81, 0xC1, 0x80, 0xF2, 0x1B, 0x00, 0x00, 0x41, 0x44};
+static const uint8_t numbers[2] = {1, 4};
+WRITER(tagged_first, ghj_tagged_step(records, sizeof records, 0, out, room))
+WRITER(tagged_second, ghj_tagged_step(records, sizeof records, 5, out, room))
+WRITER(tagged_numbers, ghj_tagged_numbers(records, sizeof records, out, room))
+WRITER(tagged_listing, ghj_tagged_listing(records, sizeof records, out, room))
+WRITER(tagged_algorithms, ghj_tagged_algorithms(records + 11, 2, out, room))
+WRITER(tagged_standard, ghj_tagged_write(0, 0, 3, 1, numbers, 1, numbers, 1, out, room))
+WRITER(tagged_own, ghj_tagged_write(1, 7154, 0x80, 0, numbers, 2, numbers, 0, out, room))
+
+static void tagged(void) {
+    static const uint8_t first[32] = {3, 0, 0, 0, 0, 1, 0, 0, 3, 0, 0, 0, 0, 0, 0, 0, 4, 0, 0, 0, 0, 0, 0, 0, 5};
+    static const uint8_t second[32] = {0x80, 1,  0xF2, 0x1B, 0, 0, 0, 0, 11, 0, 0, 0, 0, 0, 0, 0,
+                                       13,   0,  0,    0,    0, 0, 0, 0, 13};
+    writes("tagged step", tagged_first, first, 32);
+    writes("tagged step", tagged_second, second, 32);
+    writes("tagged numbers", tagged_numbers, "\x03\x80", 2);
+    writes("tagged listing", tagged_listing, "\x03\x00\x00\x00\x00\x80\x01\xF2\x1B\x00", 10);
+    writes("tagged algorithms", tagged_algorithms, "\x01\x04", 2);
+    writes("tagged write", tagged_standard, records, 5);
+    writes("tagged write", tagged_own, records + 5, 8);
+    check("tagged count", ghj_tagged_count(records, sizeof records) == 2);
+    /* At the end and past it, nothing is written. */
+    uint8_t out[32];
+    check("tagged end", ghj_tagged_step(records, sizeof records, 13, out, 0) == 0);
+    check("tagged end", ghj_tagged_step(records, sizeof records, 14, out, 0) == 0);
+    check("tagged end", ghj_tagged_step(records, sizeof records, SIZE_MAX, out, 0) == 0);
+    check("tagged end", ghj_tagged_count(records, 0) == 0 && ghj_tagged_numbers(records, 0, out, 0) == 0);
+    /* The suites of a list that the older reading knows are the same. */
+    check("tagged old", ghj_suite_numbers(records, 5, out, 1) == 1 && out[0] == 3);
+}
+
+/* The record as a struct, where the machine keeps the low byte first. */
+static void tagged_struct(void) {
+    struct ghj_tagged_record record = {0};
+    check("tagged struct", sizeof record == 32);
+    check("tagged struct", ghj_tagged_step(records, sizeof records, 5, (uint8_t *)&record, sizeof record) == 32);
+    check("tagged struct", record.number == 0x80 && record.own == 1 && memcmp(record.vendor, "\xF2\x1B\x00", 3) == 0);
+    check("tagged struct", record.authentication == 0 && record.zeros[0] == 0 && record.zeros[1] == 0);
+    static const uint64_t one = 1;
+    if (*(const uint8_t *)&one == 1)
+        check("tagged struct", record.integrity == 11 && record.confidentiality == 13 && record.end == 13);
+}
+
+/* All that read the whole list say the place, whatever the room. */
+static void bad_record(const char *what, const void *list, size_t length, uint64_t place) {
+    uint8_t out[32], before[32];
+    memset(out, 0xA5, sizeof out);
+    memcpy(before, out, sizeof out);
+    refuses(what, ghj_tagged_count(list, length), GHJ_BAD_RECORD, place);
+    for (size_t room = 0; room <= sizeof out; room += sizeof out) {
+        refuses(what, ghj_tagged_numbers(list, length, out, room), GHJ_BAD_RECORD, place);
+        refuses(what, ghj_tagged_listing(list, length, out, room), GHJ_BAD_RECORD, place);
+    }
+    check(what, memcmp(out, before, sizeof out) == 0);
+}
+
+static void tagged_refused(void) {
+    bad_record("C0", "\xC0", 1, 1);
+    bad_record("C0 03 41", "\xC0\x03\x41", 3, 2);
+    bad_record("C0 03 01 00", "\xC0\x03\x01\x00", 4, 3);
+    bad_record("C0 03 01 81 41", "\xC0\x03\x01\x81\x41", 5, 4);
+    check("C0 03 01", ghj_tagged_count((const uint8_t *)"\xC0\x03\x01", 3) == 1);
+    bad_record("no start", "\x03\x01", 2, 0);
+    bad_record("another start", "\xC2\x03\x01", 3, 0);
+    bad_record("within a vendor's number", "\xC1\x80\xF2\x1B", 4, 4);
+    bad_record("no authentication", "\xC1\x80\xF2\x1B\x00\x41", 6, 5);
+    /* A step says so of the record at its position alone. */
+    uint8_t out[32];
+    check("a step before it", ghj_tagged_step((const uint8_t *)"\xC0\x03\x01\x00", 4, 0, out, 32) == 32);
+    refuses("a step", ghj_tagged_step((const uint8_t *)"\xC0\x03\x01\x00", 4, 3, out, 0), GHJ_BAD_RECORD, 3);
+    refuses("a step", ghj_tagged_step((const uint8_t *)"\xC0\x03\x01\xC1", 4, 3, out, 32), GHJ_BAD_RECORD, 4);
+    /* A place that needs more than a byte. */
+    static uint8_t longer[0x20003] = {0xC0, 0x03, 0x01};
+    memset(longer + 3, 0x41, 0x20000);
+    check("a long record", ghj_tagged_count(longer, sizeof longer) == 1);
+    longer[0x12345] = 0x3F;
+    bad_record("a long record", longer, sizeof longer, 0x12345);
+}
+
+static uint64_t written_as(uint8_t owner, uint32_t vendor, uint8_t authentication, uint8_t integrity, uint8_t confidentiality) {
+    uint8_t out[8];
+    return ghj_tagged_write(owner, vendor, 0xFF, authentication, &integrity, 1, &confidentiality, 1, out, sizeof out);
+}
+
+static void tagged_forms(void) {
+    check("tagged form", written_as(0, 0, 63, 63, 63) == 5 && written_as(1, 0xFFFFFF, 63, 63, 63) == 8);
+    refuses("tagged form", written_as(2, 0, 0, 0, 0), GHJ_NO_FORM, 0);
+    refuses("tagged form", written_as(0xFF, 0, 0, 0, 0), GHJ_NO_FORM, 0);
+    refuses("tagged form", written_as(0, 1, 0, 0, 0), GHJ_NO_FORM, 0);
+    refuses("tagged form", written_as(1, 0x1000000, 0, 0, 0), GHJ_NO_FORM, 0);
+    refuses("tagged form", written_as(1, UINT32_MAX, 0, 0, 0), GHJ_NO_FORM, 0);
+    refuses("tagged form", written_as(0, 0, 64, 0, 0), GHJ_NO_FORM, 0);
+    refuses("tagged form", written_as(0, 0, 0, 64, 0), GHJ_NO_FORM, 0);
+    refuses("tagged form", written_as(0, 0, 0, 0, 0xFF), GHJ_NO_FORM, 0);
+    uint8_t out[1];
+    refuses("tagged form", ghj_tagged_write(2, 0, 0, 64, numbers, 2, numbers, 2, out, 0), GHJ_NO_FORM, 0);
+}
+
 static uint64_t answer(struct ghj_collector *c, uint8_t index, const uint8_t *part, size_t length) {
     struct ghj_collector other = *c;
     uint64_t number = ghj_collector_answer(c->bytes, c->marks, index, part, length);
@@ -345,6 +445,10 @@ int main(void) {
     types();
     table();
     lists();
+    tagged();
+    tagged_struct();
+    tagged_refused();
+    tagged_forms();
     collectors();
     if (faults == 0)
         printf("c: the examples hold\n");

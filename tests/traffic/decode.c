@@ -1,11 +1,18 @@
-/* Reads lines and prints what the port says to each: bytes in hex, or `refused`, the number and the byte that it carries.
+/* Reads lines and prints what the port says to each: bytes in hex, or `refused`, the number and what it carries.
  *     response COMMAND DATA     the record of a response with these data
  *     request COMMAND PARTS     the request that is made of these parts, in the order of the C function's arguments
  *     read COMMAND DATA         the parts of a request with these data
  *     apply COMMAND PARTS       the settings after a command, both in the order of the C function's arguments
+ * And of a list of suites, COMMAND being 54:
+ *     numbers, listing, older   the suite numbers and the listing by the strict reading, the numbers by the older one
+ *     step                      the record at the position of the first two bytes, low first; the rest is the list
+ *     write                     the record that is made of these parts: owner, vendor (four bytes, low first), number,
+ *                               authentication, how many numbers of integrity, these, then those of confidentiality
+ *     row                       the algorithms of the suite of this number
  * All in hex, `-` for no bytes. */
 #include "ghjalvestru.h"
 
+#include <inttypes.h>
 #include <stdio.h>
 #include <stdlib.h>
 #include <string.h>
@@ -46,6 +53,23 @@ static uint64_t set(const char *what, const uint8_t *bytes, size_t length, uint8
     exit(2);
 }
 
+static uint64_t suites(const char *what, const uint8_t *bytes, size_t length, uint8_t *out, size_t room) {
+    if (strcmp(what, "numbers") == 0)
+        return ghj_tagged_numbers(bytes, length, out, room);
+    if (strcmp(what, "listing") == 0)
+        return ghj_tagged_listing(bytes, length, out, room);
+    if (strcmp(what, "older") == 0)
+        return ghj_suite_numbers(bytes, length, out, room);
+    if (strcmp(what, "step") == 0 && length >= 2)
+        return ghj_tagged_step(bytes + 2, length - 2, bytes[0] | (size_t)bytes[1] << 8, out, room);
+    if (strcmp(what, "write") == 0 && length >= 8 && length >= 8u + bytes[7])
+        return ghj_tagged_write(bytes[0], number(bytes + 1), bytes[5], bytes[6], bytes + 8, bytes[7], bytes + 8 + bytes[7],
+                                length - 8 - bytes[7], out, room);
+    if (strcmp(what, "row") == 0 && length == 1)
+        return ghj_suite_algorithms(bytes[0], out, room);
+    exit(2);
+}
+
 static uint64_t answer(const char *what, unsigned command, const uint8_t *bytes, size_t length, uint8_t *out, size_t room) {
     if (strcmp(what, "response") == 0)
         return response(command, bytes, length, out, room);
@@ -53,6 +77,8 @@ static uint64_t answer(const char *what, unsigned command, const uint8_t *bytes,
         return request(command, bytes, length, out, room);
     if (command == 0x40)
         return set(what, bytes, length, out, room);
+    if (command == 0x54)
+        return suites(what, bytes, length, out, room);
     exit(2);
 }
 
@@ -62,13 +88,13 @@ int main(void) {
     /* A question may wait for the answer to the one before. */
     setvbuf(stdout, NULL, _IOLBF, BUFSIZ);
     while (scanf("%15s %x %1023s", what, &command, pairs) == 3) {
-        uint8_t bytes[512] = {0}, out[32];
+        uint8_t bytes[512] = {0}, out[512];
         size_t length = 0;
         for (const char *at = pairs; sscanf(at, "%2x", &byte) == 1; at += 2)
             bytes[length++] = (uint8_t)byte;
         uint64_t said = answer(what, command, bytes, length, out, sizeof out);
         if (GHJ_IS_REFUSED(said)) {
-            printf("refused %u %u\n", GHJ_REFUSAL(said), GHJ_CARRIED(said));
+            printf("refused %u %" PRIu64 "\n", GHJ_REFUSAL(said), GHJ_CARRIED(said));
             continue;
         }
         for (size_t i = 0; i < said; i++)

@@ -1,9 +1,15 @@
 //! The port, through C: its collector against the model, on the recorded questions and, with the word `million`, on a million
-//! random histories; all else against the Rust crate, on `rounds=N` random turns a function from `seed=N`.
+//! random histories; its records with tags against the model, and all else against the Rust crate, on `rounds=N` random
+//! turns a function from `seed=N`.
 
 #[cfg(feature = "oracle")]
 mod against;
+#[cfg_attr(not(feature = "oracle"), allow(dead_code))]
+mod held;
+#[cfg_attr(not(feature = "oracle"), allow(dead_code))]
+mod inputs;
 mod port;
+mod records;
 
 use collector_model::{answer_by, million_by};
 use port::Port;
@@ -28,6 +34,7 @@ fn main() {
     if asked.million {
         same &= million();
     }
+    same &= records::all(asked.seed, asked.rounds);
     same &= readers(&asked);
     if !same {
         std::process::exit(1);

@@ -5,6 +5,7 @@ mod algorithms;
 mod get_channel_authentication_capabilities;
 mod get_channel_cipher_suites;
 mod get_session_challenge;
+pub mod tagged_records;
 
 pub use activate_session::{ActivateSession, BeginSessionInfo};
 pub use algorithms::{AuthenticationAlgorithm, ConfidentialityAlgorithm, IntegrityAlgorithm};
@@ -15,6 +16,7 @@ pub use get_channel_cipher_suites::{
     ChannelCipherSuites, CipherSuite, GetChannelCipherSuites, Iter,
 };
 pub use get_session_challenge::{GetSessionChallenge, SessionChallenge};
+pub use tagged_records::{Owner, TaggedRecord, TaggedRecords};
 
 use crate::number::{accepted, certain, show};
 use crate::sys;

@@ -1,7 +1,5 @@
 //! The C functions against the Rust crate, compiled unchanged: every number that C gives, every byte that was lent to it.
 
-mod held;
-mod inputs;
 mod numbers;
 mod readers;
 mod requests;
@@ -9,8 +7,8 @@ mod steps;
 mod texts;
 mod types;
 
-use held::Held;
-use inputs::Random;
+use crate::held;
+use crate::inputs::Random;
 
 /// Holds all functions; prints a line for each.
 pub fn all(seed: u64, rounds: u64) -> bool {
@@ -24,11 +22,5 @@ pub fn all(seed: u64, rounds: u64) -> bool {
     numbers::hold(&mut all, &mut random, rounds);
     types::hold(&mut all, &mut random, rounds / 8);
 
-    for held in &all {
-        println!("{held}");
-    }
-    let answers: u64 = all.iter().map(|held| held.answers).sum();
-    let differ: u64 = all.iter().map(|held| held.differ).sum();
-    println!("readers: {answers} answers, {differ} otherwise than the crate's");
-    differ == 0 && all.iter().all(Held::tells)
+    held::said("readers", "the crate's", &all)
 }

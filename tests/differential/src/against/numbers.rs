@@ -1,8 +1,8 @@
 //! Functions between numbers: the strength of authentication types, the table of suites.
 
-use super::held::{Expected, Held};
-use super::inputs::Random;
 use super::requests::auth_type;
+use crate::held::{Expected, Held};
+use crate::inputs::Random;
 use ghjalvestru::sys::{self, NONE};
 use oracle_core::app::auth::{CipherSuite, GetChannelAuthenticationCapabilities};
 use oracle_core::connection::IpmiCommand;

@@ -1,7 +1,7 @@
 //! The readers of the six responses and of a list. A record is laid out from the fields that the crate parsed.
 
-use super::held::{refused, refused_with, Expected, Held};
-use super::inputs::{damaged, each_byte, each_length, each_prefix, each_short, Random};
+use crate::held::{refused, refused_with, Expected, Held};
+use crate::inputs::{damaged, each_byte, each_length, each_prefix, each_short, Random};
 use ghjalvestru::sys::{self, CAPACITY, PARTS};
 use oracle_core::app::auth::{
     ActivateSession, AuthError, ChannelCipherSuites, GetChannelAuthenticationCapabilities,

@@ -1,7 +1,7 @@
 //! The data of the six commands, as the crate's messages have them.
 
-use super::held::{refused, refused_with, Expected, Held};
-use super::inputs::Random;
+use crate::held::{refused, refused_with, Expected, Held};
+use crate::inputs::Random;
 use ghjalvestru::sys;
 use oracle_core::app::auth::{
     ActivateSession, AuthType, GetChannelAuthenticationCapabilities, GetChannelCipherSuites,

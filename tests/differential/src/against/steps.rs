@@ -1,9 +1,9 @@
 //! The reading of a list, one step at a time. What a step gives comes from the crate's iterator; how far it moves is read
 //! off what the crate gives when other bytes follow.
 
-use super::held::Held;
-use super::inputs::{damaged, each_length, each_short, Random};
 use super::readers::{usual_list, LONGEST};
+use crate::held::Held;
+use crate::inputs::{damaged, each_length, each_short, Random};
 use ghjalvestru::sys::{self, NONE};
 use oracle_core::app::auth::ChannelCipherSuites;
 

@@ -1,7 +1,7 @@
 //! The texts, as the crate shows them.
 
-use super::held::{refused, Expected, Held};
 use super::requests::auth_type;
+use crate::held::{refused, Expected, Held};
 use ghjalvestru::sys;
 use oracle_core::app::get_channel_access::{ChannelAccessMode, ChannelPrivilegeLevel};
 use oracle_core::app::get_channel_info::{

@@ -1,10 +1,10 @@
 //! The Rust crate over the C functions, beside the crate whose names it has: the same calls, shown alike.
 
-use super::held::Held;
-use super::inputs::{damaged, each_short, Random};
 use super::readers::{
     usual_activation, usual_capabilities, usual_challenge, usual_info, usual_list, LONGEST,
 };
+use crate::held::Held;
+use crate::inputs::{damaged, each_short, Random};
 use ghjalvestru::app as ours;
 use ghjalvestru::app::auth as our_auth;
 use ghjalvestru::connection as our_connection;

@@ -1,4 +1,4 @@
-//! One function held against the crate, and the count of its answers.
+//! One function held against the crate or the model, and the count of its answers.
 
 use ghjalvestru::sys::REFUSED;
 use std::fmt;
@@ -12,7 +12,7 @@ const SOME: usize = 40;
 /// How many differences of a function are printed.
 const SHOWN: u64 = 5;
 
-/// What the crate says: the bytes to be written, or the number that C gives when it writes none.
+/// What has to be said: the bytes to be written, or the number that C gives when it writes none.
 pub type Expected = Result<Vec<u8>, u64>;
 
 pub fn refused(refusal: u64) -> u64 {
@@ -25,7 +25,7 @@ pub fn refused_with(refusal: u64, carried: u8) -> u64 {
 
 pub struct Held {
     name: &'static str,
-    /// Does the crate refuse some of what it is asked?
+    /// Is some of what is asked to be refused?
     refuses: bool,
     pub answers: u64,
     accepted: u64,
@@ -126,25 +126,58 @@ impl Held {
         }
     }
 
-    pub fn differs(&mut self, given: &[u8], expected: &str, said: &str) {
-        self.differ += 1;
-        if self.differ <= SHOWN {
-            let name = self.name;
-            println!("differs: {name} {given:02X?}\n  crate: {expected}\n  port:  {said}");
+    /// Asked for a value, which is shown only where it is another one.
+    pub fn agrees<T: PartialEq + fmt::Debug>(
+        &mut self,
+        given: &[u8],
+        refused: bool,
+        expected: T,
+        said: T,
+    ) {
+        self.answers += 1;
+        if refused {
+            self.refused += 1;
+        } else {
+            self.accepted += 1;
+        }
+        if said != expected {
+            self.differs(given, &format!("{expected:?}"), &format!("{said:?}"));
         }
     }
 
-    /// Was there something to accept, and to refuse exactly where the crate refuses at all? Else the run tells nothing.
-    pub fn tells(&self) -> bool {
+    pub fn differs(&mut self, given: &[u8], expected: &str, said: &str) {
+        self.differ += 1;
+        if self.differ <= SHOWN {
+            let (name, given) = (self.name, format!("{given:02X?}"));
+            let [given, expected, said] = [&given, expected, said].map(cut);
+            println!("differs: {name} {given}\n  expected: {expected}\n  port:     {said}");
+        }
+    }
+
+    /// Was there something to accept, and to refuse exactly where there is a refusal at all? Else the run tells nothing.
+    fn tells(&self) -> bool {
         let tells = self.accepted > 0 && self.refuses == (self.refused > 0);
         if !tells {
-            println!(
-                "readers: {} was not asked for every kind of answer",
-                self.name
-            );
+            println!("{} was not asked for every kind of answer", self.name);
         }
         tells
     }
+}
+
+/// The start of a text that is too long to be read.
+fn cut(text: &str) -> &str {
+    text.get(..8000).unwrap_or(text)
+}
+
+/// Prints a line for each and one for all. Are all answers as they have to be?
+pub fn said(what: &str, whose: &str, all: &[Held]) -> bool {
+    for held in all {
+        println!("{held}");
+    }
+    let answers: u64 = all.iter().map(|held| held.answers).sum();
+    let differ: u64 = all.iter().map(|held| held.differ).sum();
+    println!("{what}: {answers} answers, {differ} otherwise than {whose}");
+    differ == 0 && all.iter().all(Held::tells)
 }
 
 impl fmt::Display for Held {
