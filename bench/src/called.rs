@@ -1,6 +1,7 @@
 //! The crate's readers behind the same kind of call as the port's: C functions that are not inlined, on slices, with the
-//! records of include/ghjalvestru.h written out.
+//! records of include/ghjalvestru.h written out. So too the plain strict reader.
 
+use crate::plain::{strict_numbers, strict_step};
 use oracle_core::app::auth::{
     ActivateSession, AuthError, ChannelCipherSuites, GetChannelAuthenticationCapabilities,
     GetChannelCipherSuites, GetSessionChallenge,
@@ -19,9 +20,9 @@ pub type Reader = unsafe extern "C" fn(*const u8, usize, *mut u8, usize) -> u64;
 
 const NOT_ENOUGH_DATA: u64 = 1;
 const TOO_MUCH_DATA: u64 = 2;
-const NO_ROOM: u64 = 11;
+pub(crate) const NO_ROOM: u64 = 11;
 
-fn refused(number: u64) -> u64 {
+pub(crate) fn refused(number: u64) -> u64 {
     1 << 63 | number
 }
 
@@ -35,7 +36,7 @@ fn auth_refused(error: AuthError) -> u64 {
 }
 
 #[inline(always)]
-fn placed(record: &[u8], out: &mut [u8]) -> u64 {
+pub(crate) fn placed(record: &[u8], out: &mut [u8]) -> u64 {
     let Some(place) = out.get_mut(..record.len()) else {
         return refused(NO_ROOM);
     };
@@ -136,6 +137,22 @@ called!(crate_challenge, challenge);
 called!(crate_activation, activation);
 called!(crate_suites, suites);
 called!(crate_numbers, numbers);
+called!(plain_numbers, strict_numbers);
+
+/// # Safety
+/// The pointers are those of slices of the lengths beside them.
+#[no_mangle]
+#[inline(never)]
+pub unsafe extern "C" fn plain_step(
+    list: *const u8,
+    length: usize,
+    position: usize,
+    out: *mut u8,
+    room: usize,
+) -> u64 {
+    let (list, out) = unsafe { (from_raw_parts(list, length), from_raw_parts_mut(out, room)) };
+    strict_step(list, position, out)
+}
 
 /// A call that does nothing.
 ///

@@ -2,7 +2,7 @@
 //! few times, for a counter of instructions, and how often.
 
 use ghjalvestru_bench::called::{self, numbers, Reader};
-use ghjalvestru_bench::plain::{Plain, PART};
+use ghjalvestru_bench::plain::{self, Plain, PART, RECORD};
 use ghjalvestru_bench::port;
 use ghjalvestru_bench::requests::{self, Writer, Writing, ASKED, WRITINGS};
 use ghjalvestru_bench::timing::{compare, heading};
@@ -15,6 +15,9 @@ use oracle_core::app::get_channel_access::ChannelAccess;
 use oracle_core::app::get_channel_info::ChannelInfo;
 use oracle_core::connection::IpmiCommand;
 use std::hint::black_box;
+
+/// The largest output: a record for each of 204.
+const ROOM: usize = 204 * RECORD;
 
 /// A list of records, whole.
 fn records(count: u16) -> Vec<u8> {
@@ -62,6 +65,35 @@ struct Row {
     inlined: fn(&[Vec<u8>]),
     floor: Reader,
 }
+
+/// A strict reading step by step, from 0 to the end, as one reader: the records one behind the other, and their
+/// bytes' number.
+macro_rules! steps {
+    ($name:ident, $step:path) => {
+        unsafe extern "C" fn $name(
+            list: *const u8,
+            length: usize,
+            out: *mut u8,
+            room: usize,
+        ) -> u64 {
+            let (mut position, mut written) = (0, 0);
+            loop {
+                let place = unsafe { out.add(written) };
+                let said = unsafe { $step(list, length, position, place, room - written) };
+                if said != RECORD as u64 {
+                    break;
+                }
+                let end = unsafe { place.add(RECORD - 8).cast::<u64>().read_unaligned() };
+                position = u64::from_le(end) as usize;
+                written += RECORD;
+            }
+            written as u64
+        }
+    };
+}
+
+steps!(port_steps, port::ghj_tagged_step);
+steps!(plain_steps, called::plain_step);
 
 /// The crate's reader in the loop itself.
 macro_rules! inlined {
@@ -178,13 +210,38 @@ fn rows() -> Vec<Row> {
             },
             floor: called::copying::<1020>,
         },
+        Row {
+            name: "strict list of 204 records",
+            port: port::ghj_tagged_numbers,
+            called: called::plain_numbers,
+            inputs: vec![records(204)],
+            inlined: |inputs| {
+                let mut out = [0; 256];
+                for input in inputs {
+                    black_box(plain::strict_numbers(black_box(input), black_box(&mut out)));
+                }
+            },
+            floor: called::copying::<1020>,
+        },
+        Row {
+            name: "strict steps of 204 records",
+            port: port_steps,
+            called: plain_steps,
+            inputs: vec![records(204)],
+            inlined: |inputs| {
+                for record in plain::records(black_box(&inputs[0])) {
+                    let _ = black_box(record);
+                }
+            },
+            floor: called::copying::<1020>,
+        },
     ]
 }
 
 /// Both write and return the same.
 fn agree(row: &Row) {
     for input in &row.inputs {
-        let (mut one, mut two) = ([0xA5; 1024], [0xA5; 1024]);
+        let (mut one, mut two) = ([0xA5; ROOM], [0xA5; ROOM]);
         let said = [(row.port, &mut one), (row.called, &mut two)].map(|(read, out)| unsafe {
             read(input.as_ptr(), input.len(), out.as_mut_ptr(), out.len())
         });
@@ -200,7 +257,7 @@ fn reader_row(row: &Row) {
     agree(row);
     let inputs = &row.inputs;
     assert!(inputs.iter().all(|input| input.len() == inputs[0].len()));
-    let (mut one, mut two, mut three) = ([0u8; 1024], [0u8; 1024], [0u8; 1024]);
+    let (mut one, mut two, mut three) = ([0u8; ROOM], [0u8; ROOM], [0u8; ROOM]);
     compare(
         row.name,
         inputs.len(),
@@ -359,7 +416,7 @@ fn collector_rows() {
 
 /// So many passes over a row's inputs by one of its ways: the port, the crate, or a call that does nothing.
 fn few(row: &Row, way: &str, passes: usize) {
-    let mut out = [0; 1024];
+    let mut out = [0; ROOM];
     let read = match way {
         "port" => row.port,
         "called" => row.called,

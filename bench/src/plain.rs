@@ -1,4 +1,7 @@
-//! A collector in plain Rust, as one would write it: the same state, and the same test of it at every entry.
+//! What the crate does not have, in plain Rust, as one would write it: a collector with the same state, and the same test of it
+//! at every entry; and the strict reading of a list of suites.
+
+use crate::called::{placed, refused, NO_ROOM};
 
 pub const PART: usize = 16;
 pub const CAPACITY: usize = 1024;
@@ -97,4 +100,120 @@ impl Plain {
         }
         Err(lowest as u8)
     }
+}
+
+/// A record of a list of suites, read by its tags. Its integrity bytes lie from `integrity` up to `confidentiality`, its
+/// confidentiality bytes from there up to `end`.
+pub struct Record {
+    number: u8,
+    vendor: Option<u32>,
+    authentication: u8,
+    integrity: usize,
+    confidentiality: usize,
+    end: usize,
+}
+
+/// A record's length as include/ghjalvestru.h has it.
+pub const RECORD: usize = 32;
+
+impl Record {
+    /// The record at a position, or the place of the first byte that no record has there.
+    fn read(list: &[u8], position: usize) -> Result<Self, usize> {
+        let byte = |at: usize| list.get(at).copied().ok_or(list.len());
+        let (vendor, at) = match byte(position)? {
+            0xC0 => (None, position + 2),
+            0xC1 => {
+                let bytes = [
+                    byte(position + 2)?,
+                    byte(position + 3)?,
+                    byte(position + 4)?,
+                    0,
+                ];
+                (Some(u32::from_le_bytes(bytes)), position + 5)
+            }
+            _ => return Err(position),
+        };
+        let number = byte(position + 1)?;
+        let authentication = byte(at)?;
+        if authentication >> 6 != 0 {
+            return Err(at);
+        }
+        let integrity = at + 1;
+        let confidentiality = reach(list, 1, integrity);
+        let end = reach(list, 2, confidentiality);
+        Ok(Self {
+            number,
+            vendor,
+            authentication,
+            integrity,
+            confidentiality,
+            end,
+        })
+    }
+
+    fn bytes(&self) -> [u8; RECORD] {
+        let mut record = [0; RECORD];
+        record[0] = self.number;
+        record[1] = u8::from(self.vendor.is_some());
+        record[2..5].copy_from_slice(&self.vendor.unwrap_or(0).to_le_bytes()[..3]);
+        record[5] = self.authentication;
+        record[8..16].copy_from_slice(&(self.integrity as u64).to_le_bytes());
+        record[16..24].copy_from_slice(&(self.confidentiality as u64).to_le_bytes());
+        record[24..].copy_from_slice(&(self.end as u64).to_le_bytes());
+        record
+    }
+}
+
+/// Where the bytes with a tag end that begin at a place.
+fn reach(list: &[u8], tag: u8, at: usize) -> usize {
+    let tagged = list[at..].iter().take_while(|&&byte| byte >> 6 == tag);
+    at + tagged.count()
+}
+
+/// A list's records; the last may be a refusal.
+pub fn records(list: &[u8]) -> impl Iterator<Item = Result<Record, usize>> + '_ {
+    let mut position = 0;
+    std::iter::from_fn(move || {
+        if position >= list.len() {
+            return None;
+        }
+        let record = Record::read(list, position);
+        position = record.as_ref().map_or(list.len(), |record| record.end);
+        Some(record)
+    })
+}
+
+fn bad_record(place: usize) -> u64 {
+    refused(16 | (place as u64).min((1 << 55) - 1) << 8)
+}
+
+/// As the port: the record's bytes, nothing at the end.
+#[inline(always)]
+pub fn strict_step(list: &[u8], position: usize, out: &mut [u8]) -> u64 {
+    if position >= list.len() {
+        return 0;
+    }
+    match Record::read(list, position) {
+        Ok(record) => placed(&record.bytes(), out),
+        Err(place) => bad_record(place),
+    }
+}
+
+/// As the port: nothing is written where one record is bad or one number has no room.
+#[inline(always)]
+pub fn strict_numbers(list: &[u8], out: &mut [u8]) -> u64 {
+    let mut count = 0;
+    for record in records(list) {
+        if let Err(place) = record {
+            return bad_record(place);
+        }
+        count += 1;
+    }
+    let Some(out) = out.get_mut(..count) else {
+        return refused(NO_ROOM);
+    };
+    for (place, record) in out.iter_mut().zip(records(list).flatten()) {
+        *place = record.number;
+    }
+    count as u64
 }

@@ -10,6 +10,14 @@ extern "C" {
     pub fn ghj_activation(response: *const u8, length: usize, out: *mut u8, room: usize) -> u64;
     pub fn ghj_suites(response: *const u8, length: usize, out: *mut u8, room: usize) -> u64;
     pub fn ghj_suite_numbers(list: *const u8, length: usize, out: *mut u8, room: usize) -> u64;
+    pub fn ghj_tagged_numbers(list: *const u8, length: usize, out: *mut u8, room: usize) -> u64;
+    pub fn ghj_tagged_step(
+        list: *const u8,
+        length: usize,
+        position: usize,
+        out: *mut u8,
+        room: usize,
+    ) -> u64;
     pub fn ghj_collector_answer(
         bytes: *mut [u8; CAPACITY],
         marks: *mut [u8; PARTS],
