@@ -211,3 +211,22 @@ module _ (list : List ℕ) where
         go : (o : Outcome (List TaggedRecord)) → ((o >>= λ records. accepted (r ∷ records)) >>= λ records. accepted (n + length records)) ≡ (o >>= λ records. accepted (n + 1 + length records))
         go (accepted records) = ap accepted (omega arith)
         go (refused k v) = refl
+
+-- Reading by steps.
+
+-- at the end nothing is left; else a step's record, and what is left where it ends
+abbrev pub followed : List ℕ → Option TaggedRecord → Outcome (List TaggedRecord)
+followed list none = accepted []
+followed list (some r) = before (restOf list) (accepted r)
+
+-- Who takes one step after the other gets the list's records; the first step that is refused is refused as the list is.
+pub by-steps : (list : List ℕ) (p : ℕ) → restOf list p ≡ (stepAt list p >>= followed list)
+by-steps list p = go (ltb p (length list)) refl
+  where
+    same : (o : Outcome TaggedRecord) → before (restOf list) o ≡ ((o >>= λ r. accepted (some r)) >>= followed list)
+    same (accepted r) = refl
+    same (refused n v) = refl
+
+    go : (b : Bool) → ltb p (length list) ≡ b → restOf list p ≡ (stepAt list p >>= followed list)
+    go false e = rw e (rest-end list p (ltb-false _ _ e))
+    go true e = rw e (rest-read list p (ltb-true _ _ e) refl ∙ same (recordAt list p))
