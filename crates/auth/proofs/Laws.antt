@@ -23,11 +23,15 @@ use Rattle.base.proofs.Named.{name-iff, nothing, unnamed}
 
 infix 15 _weaker_
 -- a number names exactly the type whose number it is
-pub auth-type-iff : (n : ℕ) (a : AuthType) → authTypeOf n ≡ some a ↔ authTypeValue a ≡ n
-auth-type-iff = name-iff authTypeValue authTypes refl (elim [ None ↦ refl | MD2 ↦ refl | MD5 ↦ refl | Key ↦ refl ])
+pub auth-number-iff : (n : ℕ) (a : AuthType) → named authTypes n ≡ some a ↔ authTypeValue a ≡ n
+auth-number-iff = name-iff authTypeValue authTypes refl (elim [ None ↦ refl | MD2 ↦ refl | MD5 ↦ refl | Key ↦ refl ])
 
-pub no-auth-type : (n : ℕ) → (0 ≡ n → ⊥) → (1 ≡ n → ⊥) → (2 ≡ n → ⊥) → (4 ≡ n → ⊥) → authTypeOf n ≡ none
-no-auth-type n no-none no-md2 no-md5 no-key = unnamed authTypeValue authTypes auth-type-iff n (elim [ None ↦ no-none | MD2 ↦ no-md2 | MD5 ↦ no-md5 | Key ↦ no-key ])
+-- a byte names exactly the type whose number is its low nibble
+pub auth-type-iff : (n : ℕ) (a : AuthType) → authTypeOf n ≡ some a ↔ authTypeValue a ≡ bits 0 4 n
+auth-type-iff n a = auth-number-iff (bits 0 4 n) a
+
+pub no-auth-number : (n : ℕ) → (0 ≡ n → ⊥) → (1 ≡ n → ⊥) → (2 ≡ n → ⊥) → (4 ≡ n → ⊥) → named authTypes n ≡ none
+no-auth-number n no-none no-md2 no-md5 no-key = unnamed authTypeValue authTypes auth-number-iff n (elim [ None ↦ no-none | MD2 ↦ no-md2 | MD5 ↦ no-md5 | Key ↦ no-key ])
 
 pub nibble-iff : (n : ℕ) (l : PrivilegeLevel) → named privileges n ≡ some l ↔ privilegeValue l ≡ n
 nibble-iff = name-iff privilegeValue privileges refl (elim [ Callback ↦ refl | User ↦ refl | Operator ↦ refl | Administrator ↦ refl | OemProperietary ↦ refl ])

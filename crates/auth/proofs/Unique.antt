@@ -26,6 +26,9 @@ integrity-algorithm-value-unique κs a ok z z′ w w′ q q′ = (both q q′, r
 pub auth-type-try-from-unique : Unique p.AuthType.try_from.Kinds.ps p.AuthType.try_from.Kinds.r p.AuthType.try_from.Reads.Asked p.AuthType.try_from.Reads.Learnt
 auth-type-try-from-unique κs a ok z z′ w w′ q q′ = (auth-type-one z z′ (both q q′), refl)
 
+pub auth-type-numbered-unique : Unique p.AuthType.numbered.Kinds.ps p.AuthType.numbered.Kinds.r p.AuthType.numbered.Reads.Asked p.AuthType.numbered.Reads.Learnt
+auth-type-numbered-unique κs a ok z z′ w w′ q q′ = (auth-type-one z z′ (both q q′), refl)
+
 pub auth-type-value-unique : Unique p.AuthType.value.Kinds.ps p.AuthType.value.Kinds.r p.AuthType.value.Reads.Asked p.AuthType.value.Reads.Learnt
 auth-type-value-unique κs a ok z z′ w w′ q q′ = (both q q′, refl)
 

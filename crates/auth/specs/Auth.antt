@@ -32,9 +32,9 @@ saidPrivilege Privilege.Nothing = accepted none
 abbrev pub authTypes : List (Option AuthType)
 authTypes = some None ∷ some MD2 ∷ some MD5 ∷ none ∷ some Key ∷ []
 
--- the whole number counts
+-- document 02, C-18: "The reading of an auth type from a byte now ignores the high nibble"; IPMI 2.0, 22.17: it is reserved
 abbrev pub authTypeOf : ℕ → Option AuthType
-authTypeOf n = named authTypes n
+authTypeOf n = named authTypes (bits 0 4 n)
 
 -- "AuthType 0, 1, 2, 4"
 abbrev pub authTypeValue : AuthType → ℕ

@@ -1,6 +1,7 @@
 // The session's messages: the Rust's auth/mod.rs. `try_from` is its TryFrom<u8>, `value` its From for u8, `name` its Debug.
 ghost use mathlib.Core.Path.{_≡_};
-ghost use Rattle.auth.specs.Auth.{authTypeName, authTypeOf, authTypeValue, privilegeOf, privilegeValue, rank, saidAuthType, saidPrivilege, strength};
+ghost use Rattle.auth.specs.Auth.{authTypeName, authTypeOf, authTypeValue, authTypes, privilegeOf, privilegeValue, rank, saidAuthType, saidPrivilege, strength};
+ghost use Rattle.base.specs.Named.{named};
 ghost use Rattle.base.specs.Outcome.{accepted};
 ghost use Rattle.base.specs.Written.{Writes};
 use base::field::bits;
@@ -30,11 +31,18 @@ pub enum Ordering {
 }
 
 impl AuthType {
-    // The whole number counts.
+    // The low nibble counts: the high one is reserved.
     pub fn try_from(value: u8) -> AuthTypeAnswer
         ensures { λ r. ⌜ saidAuthType r ≡ accepted (authTypeOf value) ⌝ }
     {
-        match value {
+        Self::numbered(bits(value, 0, 4))
+    }
+
+    // The whole number counts, as in what a command writes.
+    pub fn numbered(number: u8) -> AuthTypeAnswer
+        ensures { λ r. ⌜ saidAuthType r ≡ accepted (named authTypes number) ⌝ }
+    {
+        match number {
             0 => AuthTypeAnswer::AuthType(AuthType::None),
             1 => AuthTypeAnswer::AuthType(AuthType::MD2),
             2 => AuthTypeAnswer::AuthType(AuthType::MD5),

@@ -2,7 +2,7 @@
 use Prim.Native.Nat.{ℕ}
 use mathlib.Core.List.{List, [], _∷_}
 use mathlib.Core.Option.{Option, none, some}
-use Rattle.auth.specs.Auth.{authTypeOf, privileges}
+use Rattle.auth.specs.Auth.{authTypes, privileges}
 use Rattle.auth.specs.GetChannelAuthenticationCapabilities as capabilities
 use Rattle.auth.specs.declared.AuthType.{AuthType}
 use Rattle.auth.specs.declared.PrivilegeLevel.{PrivilegeLevel}
@@ -27,7 +27,7 @@ kindOf n = required 9 [] (named kinds n)
 
 -- the whole number counts; 4 carries it
 abbrev pub typeOf : ℕ → Outcome AuthType
-typeOf n = required 4 (n ∷ []) (authTypeOf n)
+typeOf n = required 4 (n ∷ []) (named authTypes n)
 
 -- the whole number counts; 5 carries it
 abbrev pub levelOf : ℕ → Outcome PrivilegeLevel

@@ -66,7 +66,7 @@ pub extern "C" fn ghj_session_support_text(support: u8, out: &mut [u8]) -> u64
 pub extern "C" fn ghj_auth_type_name(auth_type: u8, out: &mut [u8]) -> u64
     ensures { λ r. ⌜ Codes (typeName «auth_type») r (now (out .entry)) (now (out .exit)) ⌝ }
 {
-    let AuthTypeAnswer::AuthType(kind) = AuthType::try_from(auth_type) else {
+    let AuthTypeAnswer::AuthType(kind) = AuthType::numbered(auth_type) else {
         return refused(Refusal::InvalidAuthType(auth_type));
     };
     code(kind.name(out))

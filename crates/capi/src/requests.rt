@@ -76,7 +76,7 @@ pub extern "C" fn ghj_capabilities_request(channel: u8, privilege: u8, out: &mut
 pub extern "C" fn ghj_challenge_request(auth_type: u8, name: &[u8], out: &mut [u8]) -> u64
     ensures { λ r. ⌜ Codes (challengeRequest «auth_type» (now (name .entry))) r (now (out .entry)) (now (out .exit)) ⌝ }
 {
-    let AuthTypeAnswer::AuthType(kind) = AuthType::try_from(auth_type) else {
+    let AuthTypeAnswer::AuthType(kind) = AuthType::numbered(auth_type) else {
         return refused(Refusal::InvalidAuthType(auth_type));
     };
     let answer = GetSessionChallenge::new(kind, name);
@@ -98,7 +98,7 @@ pub extern "C" fn ghj_activation_request(
 ) -> u64
     ensures { λ r. ⌜ Codes (activationRequest «auth_type» privilege (now (challenge .entry)) sequence) r (now (out .entry)) (now (out .exit)) ⌝ }
 {
-    let AuthTypeAnswer::AuthType(kind) = AuthType::try_from(auth_type) else {
+    let AuthTypeAnswer::AuthType(kind) = AuthType::numbered(auth_type) else {
         return refused(Refusal::InvalidAuthType(auth_type));
     };
     let PrivilegeAnswer::Level(level) = whole_privilege(privilege) else {

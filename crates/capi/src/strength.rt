@@ -64,10 +64,10 @@ fn order_number(order: Ordering) -> u64
 pub extern "C" fn ghj_compare_strength(auth_type: u8, other: u8) -> u64
     ensures { λ r. ⌜ r ≡ code (compared «auth_type» other) ⌝ }
 {
-    let AuthTypeAnswer::AuthType(kind) = AuthType::try_from(auth_type) else {
+    let AuthTypeAnswer::AuthType(kind) = AuthType::numbered(auth_type) else {
         return refused(Refusal::InvalidAuthType(auth_type));
     };
-    let AuthTypeAnswer::AuthType(second) = AuthType::try_from(other) else {
+    let AuthTypeAnswer::AuthType(second) = AuthType::numbered(other) else {
         return refused(Refusal::InvalidAuthType(other));
     };
     order_number(kind.compare_strength(second))

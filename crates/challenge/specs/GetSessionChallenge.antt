@@ -5,10 +5,10 @@ use lib.ListN.{length, drop, replicate}
 use Rattle.base.specs.Choice.{if_then_else_, _<?_, _=?_}
 use Rattle.base.specs.Field.{byte}
 use Rattle.base.specs.Little.{little, littleBytes}
-use Rattle.base.specs.Named.{required}
+use Rattle.base.specs.Named.{named, required}
 use Rattle.base.specs.Outcome.{Outcome, accepted, refused, _>>=_}
 use Rattle.base.specs.Written.{padded}
-use Rattle.auth.specs.Auth.{authTypeOf, authTypeValue}
+use Rattle.auth.specs.Auth.{authTypeValue, authTypes}
 use Rattle.auth.specs.Session.{nonZero}
 use Rattle.auth.specs.declared.AuthType.{AuthType}
 use Rattle.auth.specs.declared.AuthType.the-variants.{None}
@@ -37,7 +37,7 @@ commandBytes c = authTypeValue (c .«auth_type») ∷ c .username
 abbrev pub commandOf : List ℕ → Outcome GetSessionChallenge
 commandOf request =
     if length request =? 17 then (do
-      kind ← required 10 [] (authTypeOf (byte 0 request))
+      kind ← required 10 [] (named authTypes (byte 0 request))
       accepted (command kind (drop 1 request)))
     else refused 10 []
 

@@ -108,7 +108,7 @@ impl GetSessionChallenge {
         if request.len() != 17 {
             return Self::refused(Refusal::NotARequest);
         }
-        let AuthTypeAnswer::AuthType(auth_type) = AuthType::try_from(request[0]) else {
+        let AuthTypeAnswer::AuthType(auth_type) = AuthType::numbered(request[0]) else {
             return Self::refused(Refusal::NotARequest);
         };
         let mut username = [0u8; 16];

@@ -1,4 +1,4 @@
--- Document 01, "Examples at the edges", those marked P: rows of a table under one claim.
+-- Document 01, "Examples at the edges", those marked P, and those of document 02's C-18: rows of a table under one claim.
 use mathlib.Core.Path.{_≡_}
 use Prim.Native.Nat.{ℕ}
 use mathlib.Core.Bool.{false}
@@ -8,6 +8,7 @@ use lib.ListN.{replicate}
 use Rattle.auth.specs.Auth.{privilegeOf}
 use Rattle.auth.specs.GetChannelAuthenticationCapabilities as Capabilities
 use Rattle.auth.specs.GetChannelAuthenticationCapabilities.{capabilitiesOf}
+use Rattle.auth.specs.declared.AuthType.the-variants.{MD5}
 use Rattle.auth.specs.declared.PrivilegeLevel.the-variants.{Administrator}
 use Rattle.base.specs.Connection.{channelOf}
 use Rattle.base.specs.Outcome.{accepted, refused}
@@ -18,7 +19,9 @@ use Rattle.channel.specs.declared.get_channel_access.ChannelAccessType.the-vari
 use Rattle.claims.proofs.Collecting.{P11, P12-first, P12-then, P13, call, seventeen-at-63, sevens, sixteen-at-63}
 use Rattle.collector.specs.Collector.{complete, fresh, listOf, missing, standingOf, taking}
 use Rattle.collector.specs.Histories.{after}
+use Rattle.session.specs.ActivateSession as Activate
 use Rattle.session.specs.ActivateSession.{beginOf}
+use Rattle.challenge.specs.GetSessionChallenge as Challenge
 use Rattle.challenge.specs.GetSessionChallenge.{challengeOf}
 use Rattle.suites.specs.GetChannelCipherSuites as Suites
 use Rattle.suites.specs.declared.get_channel_cipher_suites.SuiteAnswer.the-variants.{Nothing, Suite}
@@ -77,6 +80,13 @@ examples =
     -- "Sixteen bytes accepted at index 63; seventeen refused 2."
     ∷ (verdictOf (taking fresh 63 (sevens 16)) gives accepted tt)
     ∷ (verdictOf (taking fresh 63 (sevens 17)) gives refused 2 [])
+    -- C-18: an answer's authentication byte counts by its low nibble, and 4 carries it whole; a request's counts whole
+    ∷ (beginOf (0x12 ∷ 1 ∷ replicate 7 0 ++ 4 ∷ []) gives accepted (record { «auth_type» = MD5; «session_id» = 1; «initial_sequence_number» = 0; «maximum_privilege_level» = Administrator }))
+    ∷ (beginOf (0x13 ∷ 1 ∷ replicate 7 0 ++ 4 ∷ []) gives refused 4 (0x13 ∷ []))
+    ∷ (Challenge.commandOf (0x02 ∷ replicate 16 0) gives accepted (Challenge.command MD5 (replicate 16 0)))
+    ∷ (Challenge.commandOf (0x12 ∷ replicate 16 0) gives refused 10 [])
+    ∷ (Activate.commandOf (0x02 ∷ 4 ∷ replicate 20 0) gives accepted (Activate.command MD5 Administrator (replicate 16 0) 0))
+    ∷ (Activate.commandOf (0x12 ∷ 4 ∷ replicate 20 0) gives refused 10 [])
     ∷ []
 
 pub examples-hold : map (λ (r : Row). r .what gives r .what) examples ≡ map (λ (r : Row). r .what gives r .answer) examples

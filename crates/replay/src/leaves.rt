@@ -145,10 +145,10 @@ fn privilege(n: u8, out: &mut [u8]) -> usize {
 }
 
 fn strength(a: u8, b: u8, out: &mut [u8]) -> usize {
-    let AuthTypeAnswer::AuthType(a) = AuthType::try_from(a) else {
+    let AuthTypeAnswer::AuthType(a) = AuthType::numbered(a) else {
         return none(out);
     };
-    let AuthTypeAnswer::AuthType(b) = AuthType::try_from(b) else {
+    let AuthTypeAnswer::AuthType(b) = AuthType::numbered(b) else {
         return none(out);
     };
     match a.compare_strength(b) {

@@ -202,7 +202,7 @@ fn name_of(command: GetSessionChallenge, at: usize, out: &mut [u8]) -> usize {
 }
 
 fn challenge_request(kind: u8, name: &[u8], out: &mut [u8]) -> usize {
-    let AuthTypeAnswer::AuthType(kind) = AuthType::try_from(kind) else {
+    let AuthTypeAnswer::AuthType(kind) = AuthType::numbered(kind) else {
         return 0;
     };
     let answer = GetSessionChallenge::new(kind, name);
@@ -219,7 +219,7 @@ fn challenge_request(kind: u8, name: &[u8], out: &mut [u8]) -> usize {
 }
 
 fn challenge_name(kind: u8, name: &[u8], out: &mut [u8]) -> usize {
-    let AuthTypeAnswer::AuthType(kind) = AuthType::try_from(kind) else {
+    let AuthTypeAnswer::AuthType(kind) = AuthType::numbered(kind) else {
         return 0;
     };
     let answer = GetSessionChallenge::new(kind, name);
@@ -280,7 +280,7 @@ fn activate_request(fields: &[u8], out: &mut [u8]) -> usize {
     if fields.len() != 22 {
         return 0;
     }
-    let AuthTypeAnswer::AuthType(auth_type) = AuthType::try_from(fields[0]) else {
+    let AuthTypeAnswer::AuthType(auth_type) = AuthType::numbered(fields[0]) else {
         return 0;
     };
     let PrivilegeAnswer::Level(maximum_privilege_level) = level_of(fields[1]) else {

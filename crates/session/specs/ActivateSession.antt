@@ -8,7 +8,7 @@ use Rattle.base.specs.Little.{little, littleBytes}
 use Rattle.base.specs.Named.{named, required}
 use Rattle.base.specs.Outcome.{Outcome, accepted, refused, _>>=_}
 use Rattle.base.specs.Refusal.{refusal}
-use Rattle.auth.specs.Auth.{authTypeOf, authTypeValue, privileges, privilegeOf, privilegeValue}
+use Rattle.auth.specs.Auth.{authTypeOf, authTypeValue, authTypes, privileges, privilegeOf, privilegeValue}
 use Rattle.auth.specs.Session.{nonZero}
 use Rattle.auth.specs.declared.AuthType.{AuthType}
 use Rattle.auth.specs.declared.AuthType.the-variants.{None}
@@ -44,14 +44,14 @@ commandBytes c =
 abbrev pub commandOf : List ℕ → Outcome ActivateSession
 commandOf request =
     if length request =? 22 then (do
-      kind ← required 10 [] (authTypeOf (byte 0 request))
+      kind ← required 10 [] (named authTypes (byte 0 request))
       level ← required 10 [] (named privileges (byte 1 request))
       accepted (command kind level (take 16 (drop 2 request)) (little (byte 18 request ∷ byte 19 request ∷ byte 20 request ∷ byte 21 request ∷ []))))
     else refused 10 []
 
 -- The response: authentication type, session number, sequence number, level.
 
--- the whole authentication byte counts, and the low nibble of the level; 4 and 5 carry the byte
+-- the low nibble of the authentication byte counts (document 02, C-18), and that of the level; 4 and 5 carry the whole byte
 abbrev pub beginOf : List ℕ → Outcome BeginSessionInfo
 beginOf response =
     if length response <? 10 then refused 1 [] else do

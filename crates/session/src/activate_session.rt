@@ -62,7 +62,7 @@ impl ActivateSession {
         if request.len() != 22 {
             return Self::refused(Refusal::NotARequest);
         }
-        let AuthTypeAnswer::AuthType(auth_type) = AuthType::try_from(request[0]) else {
+        let AuthTypeAnswer::AuthType(auth_type) = AuthType::numbered(request[0]) else {
             return Self::refused(Refusal::NotARequest);
         };
         if 15 < request[1] {
@@ -104,7 +104,7 @@ pub enum BeginAnswer {
 }
 
 impl BeginSessionInfo {
-    // The whole authentication byte counts.
+    // Of the authentication byte and of the level's the low nibble counts; a refusal carries the whole byte.
     pub fn parse(response: &[u8]) -> BeginAnswer
         ensures { λ r. ⌜ saidBegin r ≡ beginOf (now (response .entry)) ⌝ }
     {

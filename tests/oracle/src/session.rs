@@ -59,6 +59,7 @@ pub fn questions(list: &mut Vec<String>) {
     challenge_request_questions(list, &mut random);
     activate_questions(list, &mut random);
     activate_request_questions(list, &mut random);
+    reserved_questions(list);
     list.extend(BAD.map(String::from));
 }
 
@@ -355,6 +356,19 @@ fn activate_request_questions(list: &mut Vec<String>, random: &mut Random) {
     // Here all other lengths are bad questions; the nearest will do.
     for length in [2, 21, 22, 23] {
         list.push(form::write("activate_request", &command[..length]));
+    }
+}
+
+/// The type's byte with all its values: the reserved bits do not count in an
+/// answer, and stand in no command.
+fn reserved_questions(list: &mut Vec<String>) {
+    for first in 0..=u8::MAX {
+        let mut data = ACTIVATED;
+        data[0] = first;
+        list.push(form::write("activate_written", &data));
+        let mut command = [0x04; 22];
+        command[0] = first;
+        list.push(form::write("activate_read", &command));
     }
 }
 

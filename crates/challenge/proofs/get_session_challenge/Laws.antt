@@ -14,18 +14,19 @@ use lib.Seq.{take-all, drop-cons}
 use Rattle.base.specs.Choice.{if_then_else_}
 use Rattle.base.specs.Field.{byte}
 use Rattle.base.specs.Little.{little, littleBytes}
+use Rattle.base.specs.Named.{named}
 use Rattle.base.specs.Outcome.{accepted, refused}
 use Rattle.base.specs.Written.{Writes, padded}
 use Rattle.base.specs.declared.written.Written.{Written}
 use Rattle.base.proofs.Outcome.{apart, no-form}
 use Rattle.base.proofs.little.Laws.{number-back}
 use Rattle.base.proofs.written.Laws.{padding}
-use Rattle.auth.specs.Auth.{authTypeOf, authTypeValue}
+use Rattle.auth.specs.Auth.{authTypeValue, authTypes}
 use Rattle.challenge.specs.GetSessionChallenge.{challenge, challengeBytes, challengeOf, command, commandBytes, commandFor, commandOf, shown}
 use Rattle.auth.specs.declared.AuthType.{AuthType}
 use Rattle.challenge.specs.declared.get_session_challenge.GetSessionChallenge.{GetSessionChallenge}
 use Rattle.challenge.specs.declared.get_session_challenge.SessionChallenge.{SessionChallenge}
-use Rattle.auth.proofs.Laws.{auth-type-iff}
+use Rattle.auth.proofs.Laws.{auth-number-iff}
 use Rattle.auth.proofs.Session.{sixteen, non-zero-only}
 
 -- a name that was written over sixteen zeros
@@ -36,7 +37,7 @@ made kind name after h w = rw (le-ltb 16 (length name) h, padding 16 h w)
 last : (k : ℕ) (s : List ℕ) → length s ≡ k + 16 → take 16 (drop k s) ≡ drop k s
 last k s h = take-all 16 (drop k s) (rw length-drop (omega arith))
 
-pub request-read : (s after : List ℕ) (kind : AuthType) {r : Written} → length s ≡ 17 → authTypeOf (byte 0 s) ≡ some kind → Writes (accepted (take 16 (drop 1 s))) r (replicate 16 0) after → commandOf s ≡ accepted (command kind after)
+pub request-read : (s after : List ℕ) (kind : AuthType) {r : Written} → length s ≡ 17 → named authTypes (byte 0 s) ≡ some kind → Writes (accepted (take 16 (drop 1 s))) r (replicate 16 0) after → commandOf s ≡ accepted (command kind after)
 request-read s after kind h e w = rw (eq-eqb (length s) 17 h, e, sixteen (take 16 (drop 1 s)) after (simp (length-take, length-drop) (omega arith)) w, last 1 s h)
 
 pub response-read : (s after : List ℕ) (id : ℕ) {r : Written} → length s ≡ 20 → id ≡ little (byte 0 s ∷ byte 1 s ∷ byte 2 s ∷ byte 3 s ∷ []) → (id ≡ 0 → ⊥)
@@ -79,18 +80,18 @@ shown-short (b ∷ s) = go (eqb b 0) (shown-short s)
 -- The command. The machine's names have sixteen bytes.
 
 pub command-iff : (s : List ℕ) (k : GetSessionChallenge) → length (k .username) ≡ 16 → commandOf s ≡ accepted k ↔ commandBytes k ≡ s
-command-iff s k l = (go (eqb (length s) 17) (authTypeOf (byte 0 s)) refl refl, back)
+command-iff s k l = (go (eqb (length s) 17) (named authTypes (byte 0 s)) refl refl, back)
   where
-    go : (b : Bool) (x : Option AuthType) → eqb (length s) 17 ≡ b → authTypeOf (byte 0 s) ≡ x → commandOf s ≡ accepted k → commandBytes k ≡ s
+    go : (b : Bool) (x : Option AuthType) → eqb (length s) 17 ≡ b → named authTypes (byte 0 s) ≡ x → commandOf s ≡ accepted k → commandBytes k ≡ s
     go false x p q e = absurd (apart (rw p at e))
     go true none p q e = absurd (apart (rw (p, q) at e))
     go true (some kind) p q e =
         let f = rw (p, q) at e in
         let z : command kind (drop 1 s) ≡ k = cc in
-        rw (← z, auth-type-iff (byte 0 s) kind .0 q) (sym (drop-cons s 0 0 (let h = eqb-true (length s) 17 p in omega arith)))
+        rw (← z, auth-number-iff (byte 0 s) kind .0 q) (sym (drop-cons s 0 0 (let h = eqb-true (length s) 17 p in omega arith)))
 
     back : commandBytes k ≡ s → commandOf s ≡ accepted k
-    back e = rw (← e, eq-eqb (length (commandBytes k)) 17 (rw l), auth-type-iff (authTypeValue (k .«auth_type»)) (k .«auth_type») .1 refl)
+    back e = rw (← e, eq-eqb (length (commandBytes k)) 17 (rw l), auth-number-iff (authTypeValue (k .«auth_type»)) (k .«auth_type») .1 refl)
 
 -- every command of the machine is made for some name, its own sixteen bytes
 pub command-made : (k : GetSessionChallenge) → length (k .username) ≡ 16 → commandFor (k .«auth_type») (k .username) ≡ accepted k

@@ -11,20 +11,20 @@ use Rattle.capi.proofs.requests.ghj_challenge_request.Tie as tie
 
 returns : tie.Need-returns
 returns c =
-    let n = told saidAuthType none (c .before .before .before .try-from .ensures) (c .before .enum-told .given .1) refl in
+    let n = told saidAuthType none (c .before .before .before .numbered .ensures) (c .before .enum-told .given .1) refl in
     refused-coded (InvalidAuthType (c .before .before .before .before .before .before .args .auth-type)) (c .before .before .before .before .before .before .args .out .now) (rw n) (c .refused .ensures)
 
 returns-2 : tie.Need-returns-2
 returns-2 c =
     let k = c .before .before .before .before .before .before .before .before .before .before .kind .given in
-    let n = told saidAuthType (some (k .0 .0)) (c .before .before .before .before .before .before .before .before .before .before .before .before .try-from .ensures) (k .1) refl in
+    let n = told saidAuthType (some (k .0 .0)) (c .before .before .before .before .before .before .before .before .before .before .before .before .numbered .ensures) (k .1) refl in
     let e = gave _ (c .before .before .before .before .before .before .before .before .new .ensures) (c .before .before .before .before .before .enum-told2 .given .1) in
     rw (n, e) (coding (c .code .ensures) (c .before .before .before .write .ensures))
 
 returns-3 : tie.Need-returns-3
 returns-3 c =
     let k = c .before .before .before .before .before .before .before .kind .given in
-    let n = told saidAuthType (some (k .0 .0)) (c .before .before .before .before .before .before .before .before .before .try-from .ensures) (k .1) refl in
+    let n = told saidAuthType (some (k .0 .0)) (c .before .before .before .before .before .before .before .before .before .numbered .ensures) (k .1) refl in
     let v = c .before .before .verdict .given in
     let e = fell _ (v .0 .0) (c .before .before .before .before .before .new .ensures) (v .1) .0 in
     refused-coded (v .0 .0) (c .before .before .before .before .before .before .before .before .before .before .before .before .args .out .now) (rw (n, e)) (c .refused2 .ensures)

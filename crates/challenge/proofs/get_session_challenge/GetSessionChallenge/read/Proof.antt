@@ -13,6 +13,16 @@ use Rattle.challenge.proofs.get_session_challenge.Laws.{request-read}
 use Rattle.challenge.proofs.get_session_challenge.GetSessionChallenge.read.Statement.{statement}
 use Rattle.challenge.proofs.get_session_challenge.GetSessionChallenge.read.Tie as tie
 
+-- What is accepted stands first: a reader that takes more is refused here.
+returns-3 : tie.Need-returns-3
+returns-3 c =
+    let k = c .before .before .before .before .before in
+    let s = c .before .before .before .before .before .before .before .before .before .before .before .args .request .now in
+    let kind = k .auth-type .given .0 .0 in
+    let after = c .before .place .last .1 .0 in
+    giving noCommand (command kind after)
+    (request-read s after kind (omega arith) (told saidAuthType (some (k .auth-type .given .0 .0)) (k .before .before .numbered .ensures) (k .auth-type .given .1) refl) (c .before .place .ensures))
+
 returns : tie.Need-returns
 returns c =
     let s = c .before .before .before .args .request .now in
@@ -23,16 +33,7 @@ returns-2 c =
     let t = c .before .before .before in
     let s = c .before .before .before .before .before .before .before .args .request .now in
     rw (c .refused2 .ensures)
-    (refusing noCommand NotARequest (simp (eq-eqb (length s) 17 (omega arith), told saidAuthType none (t .try-from .ensures) (c .before .enum-told .given .1) refl)))
-
-returns-3 : tie.Need-returns-3
-returns-3 c =
-    let k = c .before .before .before .before .before in
-    let s = c .before .before .before .before .before .before .before .before .before .before .before .args .request .now in
-    let kind = k .auth-type .given .0 .0 in
-    let after = c .before .place .last .1 .0 in
-    giving noCommand (command kind after)
-    (request-read s after kind (omega arith) (told saidAuthType (some (k .auth-type .given .0 .0)) (k .before .before .try-from .ensures) (k .auth-type .given .1) refl) (c .before .place .ensures))
+    (refusing noCommand NotARequest (simp (eq-eqb (length s) 17 (omega arith), told saidAuthType none (t .numbered .ensures) (c .before .enum-told .given .1) refl)))
 
 pub read-spec : {M : Type 1} → statement M
 read-spec =

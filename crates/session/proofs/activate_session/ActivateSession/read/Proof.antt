@@ -15,35 +15,7 @@ use Rattle.session.proofs.activate_session.Laws.{request-read}
 use Rattle.session.proofs.activate_session.ActivateSession.read.Statement.{statement}
 use Rattle.session.proofs.activate_session.ActivateSession.read.Tie as tie
 
-returns : tie.Need-returns
-returns c =
-    let s = c .before .before .before .args .request .now in
-    rw (c .refused .ensures) (refusing noCommand NotARequest (simp (ne-eqb (length s) 22 (λ h. omega arith))))
-
-returns-2 : tie.Need-returns-2
-returns-2 c =
-    let t = c .before .before .before in
-    let s = c .before .before .before .before .before .before .before .args .request .now in
-    rw (c .refused2 .ensures)
-    (refusing noCommand NotARequest (simp (eq-eqb (length s) 22 (omega arith), told saidAuthType none (t .try-from .ensures) (c .before .enum-told .given .1) refl)))
-
-returns-3 : tie.Need-returns-3
-returns-3 c =
-    let k = c .before .before .before .before in
-    let s = c .before .before .before .before .before .before .before .before .before .before .args .request .now in
-    rw (c .refused3 .ensures)
-    (refusing noCommand NotARequest
-    (simp (eq-eqb (length s) 22 (omega arith), told saidAuthType (some (k .auth-type .given .0 .0)) (k .before .before .try-from .ensures) (k .auth-type .given .1) refl, high-level (byte 1 s) (omega arith))))
-
-returns-4 : tie.Need-returns-4
-returns-4 c =
-    let t = c .before .before .before in
-    let k = c .before .before .before .before .before .before .before .before in
-    let s = c .before .before .before .before .before .before .before .before .before .before .before .before .before .before .args .request .now in
-    rw (c .refused4 .ensures)
-    (refusing noCommand NotARequest
-    (simp (eq-eqb (length s) 22 (omega arith), told saidAuthType (some (k .auth-type .given .0 .0)) (k .before .before .try-from .ensures) (k .auth-type .given .1) refl, sym (low-level (byte 1 s) (omega arith)) ∙ told saidPrivilege none (t .try-from2 .ensures) (c .before .enum-told2 .given .1) refl)))
-
+-- What is accepted stands first: a reader that takes more is refused here.
 returns-5 : tie.Need-returns-5
 returns-5 c =
     let p = c .before .before .before .before .before .before in
@@ -54,7 +26,36 @@ returns-5 c =
     let level = l .maximum-privilege-level .given .0 .0 in
     let after = p .place .last .1 .0 in
     giving noCommand (command kind level after (c .number4 .result))
-    (request-read s after kind level (c .number4 .result) (omega arith) (told saidAuthType (some (k .auth-type .given .0 .0)) (k .before .before .try-from .ensures) (k .auth-type .given .1) refl) (sym (low-level (byte 1 s) (omega arith)) ∙ told saidPrivilege (some (l .maximum-privilege-level .given .0 .0)) (l .before .before .try-from2 .ensures) (l .maximum-privilege-level .given .1) refl) (p .place .ensures) (c .number4 .ensures))
+    (request-read s after kind level (c .number4 .result) (omega arith) (told saidAuthType (some (k .auth-type .given .0 .0)) (k .before .before .numbered .ensures) (k .auth-type .given .1) refl) (sym (low-level (byte 1 s) (omega arith)) ∙ told saidPrivilege (some (l .maximum-privilege-level .given .0 .0)) (l .before .before .try-from .ensures) (l .maximum-privilege-level .given .1) refl) (p .place .ensures) (c .number4 .ensures))
+
+returns : tie.Need-returns
+returns c =
+    let s = c .before .before .before .args .request .now in
+    rw (c .refused .ensures) (refusing noCommand NotARequest (simp (ne-eqb (length s) 22 (λ h. omega arith))))
+
+returns-2 : tie.Need-returns-2
+returns-2 c =
+    let t = c .before .before .before in
+    let s = c .before .before .before .before .before .before .before .args .request .now in
+    rw (c .refused2 .ensures)
+    (refusing noCommand NotARequest (simp (eq-eqb (length s) 22 (omega arith), told saidAuthType none (t .numbered .ensures) (c .before .enum-told .given .1) refl)))
+
+returns-3 : tie.Need-returns-3
+returns-3 c =
+    let k = c .before .before .before .before in
+    let s = c .before .before .before .before .before .before .before .before .before .before .args .request .now in
+    rw (c .refused3 .ensures)
+    (refusing noCommand NotARequest
+    (simp (eq-eqb (length s) 22 (omega arith), told saidAuthType (some (k .auth-type .given .0 .0)) (k .before .before .numbered .ensures) (k .auth-type .given .1) refl, high-level (byte 1 s) (omega arith))))
+
+returns-4 : tie.Need-returns-4
+returns-4 c =
+    let t = c .before .before .before in
+    let k = c .before .before .before .before .before .before .before .before in
+    let s = c .before .before .before .before .before .before .before .before .before .before .before .before .before .before .args .request .now in
+    rw (c .refused4 .ensures)
+    (refusing noCommand NotARequest
+    (simp (eq-eqb (length s) 22 (omega arith), told saidAuthType (some (k .auth-type .given .0 .0)) (k .before .before .numbered .ensures) (k .auth-type .given .1) refl, sym (low-level (byte 1 s) (omega arith)) ∙ told saidPrivilege none (t .try-from .ensures) (c .before .enum-told2 .given .1) refl)))
 
 pub read-spec : {M : Type 1} → statement M
 read-spec =
