@@ -27,7 +27,7 @@ enum ghj_refusal {
     GHJ_NOT_ENOUGH_DATA = 1,
     GHJ_TOO_MUCH_DATA = 2,
     GHJ_INVALID_ZERO_SESSION = 3,
-    GHJ_INVALID_AUTH_TYPE = 4,       /* carries the byte */
+    GHJ_INVALID_AUTH_TYPE = 4,       /* carries the whole byte */
     GHJ_INVALID_PRIVILEGE_LEVEL = 5, /* carries the byte */
     GHJ_NO_CHANNEL = 6,
     GHJ_BAD_INDEX = 7,
@@ -45,7 +45,7 @@ enum ghj_refusal {
 #define GHJ_NONE ((uint64_t)1 << 17)
 
 /* Requests: the data of each command at the start of `out`; the number is their length. Refusals come in the order of the
- * arguments, then GHJ_NO_ROOM. */
+ * arguments, then GHJ_NO_ROOM. The whole number of a type or level counts, as a command writes no reserved bits. */
 
 /* Get Channel Access, 41h. 2 bytes: GHJ_NO_CHANNEL, then GHJ_NO_FORM where kind is not 1 (non-volatile) or 2
  * (volatile). */
@@ -63,7 +63,8 @@ uint64_t ghj_capabilities_request(uint8_t channel, uint8_t privilege, uint8_t *o
 uint64_t ghj_challenge_request(uint8_t auth_type, const uint8_t *name, size_t name_length, uint8_t *out,
                                size_t out_length);
 
-/* Activate Session, 3Ah. 22 bytes: GHJ_INVALID_AUTH_TYPE, then GHJ_INVALID_PRIVILEGE_LEVEL, each with the byte. */
+/* Activate Session, 3Ah. 22 bytes: GHJ_INVALID_AUTH_TYPE where auth_type is not 0, 1, 2 or 4, then
+ * GHJ_INVALID_PRIVILEGE_LEVEL where privilege is not 1 to 5, each with the byte. */
 uint64_t ghj_activation_request(uint8_t auth_type, uint8_t privilege, const uint8_t challenge[16], uint32_t sequence,
                                 uint8_t *out, size_t out_length);
 
@@ -105,7 +106,9 @@ uint64_t ghj_capabilities(const uint8_t *response, size_t response_length, uint8
 uint64_t ghj_challenge(const uint8_t *response, size_t response_length, uint8_t *out, size_t out_length);
 
 /* Activate Session, 3Ah. 10 bytes: authentication type; session number and first sequence number (four bytes each, low
- * first); privilege level. */
+ * first); privilege level. Type and level count by the low nibble of their byte, whose high nibble is reserved: 12h is MD5,
+ * and the record has 2. GHJ_INVALID_AUTH_TYPE where the low nibble is not 0, 1, 2 or 4, GHJ_INVALID_PRIVILEGE_LEVEL where it
+ * is not 1 to 5, each with the whole byte. */
 uint64_t ghj_activation(const uint8_t *response, size_t response_length, uint8_t *out, size_t out_length);
 
 /* Get Channel Cipher Suites, 54h. The part of the list that the answer has, 0 to 16 bytes. */
@@ -125,14 +128,14 @@ uint64_t ghj_medium_text(uint8_t medium, uint8_t *out, size_t out_length);
 uint64_t ghj_protocol_text(uint8_t protocol, uint8_t *out, size_t out_length);
 uint64_t ghj_session_support_text(uint8_t support, uint8_t *out, size_t out_length);
 
-/* An authentication type's name: GHJ_INVALID_AUTH_TYPE with the byte, then GHJ_NO_ROOM. */
+/* An authentication type's name: GHJ_INVALID_AUTH_TYPE with the number where it is not 0, 1, 2 or 4, then GHJ_NO_ROOM. */
 uint64_t ghj_auth_type_name(uint8_t auth_type, uint8_t *out, size_t out_length);
 
 /* The number of the strongest authentication type that is offered (each argument: 0 for not offered), or GHJ_NONE. */
 uint64_t ghj_best_auth(uint8_t key, uint8_t md5, uint8_t md2, uint8_t none);
 
 /* 0 where auth_type is weaker than other, 1 equal, 2 stronger; weakest first: none, Key, MD2, MD5.
- * GHJ_INVALID_AUTH_TYPE with the first byte that is no type. */
+ * GHJ_INVALID_AUTH_TYPE with the first number that is not 0, 1, 2 or 4. */
 uint64_t ghj_compare_strength(uint8_t auth_type, uint8_t other);
 
 /* A suite's three algorithms, 3 bytes: authentication, integrity, confidentiality. GHJ_NONE, and nothing written, where

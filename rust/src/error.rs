@@ -11,7 +11,7 @@ pub enum Error {
     TooMuchData,
     /// The session number is 0.
     InvalidZeroSession,
-    /// The byte names no authentication type.
+    /// The low nibble of the byte names no authentication type.
     InvalidAuthType(u8),
     /// The byte names no privilege level.
     InvalidPrivilegeLevel(u8),

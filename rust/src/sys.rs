@@ -55,7 +55,7 @@ from_bytes! {
     capabilities = ghj_capabilities;
     /// Reads a response of Get Session Challenge.
     challenge = ghj_challenge;
-    /// Reads a response of Activate Session.
+    /// Reads a response of Activate Session; the type's byte and the level's count by their low nibble.
     activation = ghj_activation;
     /// Reads a response of Get Channel Cipher Suites.
     suites = ghj_suites;
@@ -107,7 +107,7 @@ from_numbers! {
     protocol_text(protocol) = ghj_protocol_text;
     /// The text of a session support.
     session_support_text(support) = ghj_session_support_text;
-    /// The name of an authentication type.
+    /// The name of an authentication type, whose whole number counts.
     auth_type_name(auth_type) = ghj_auth_type_name;
     /// The three algorithms of a suite.
     suite_algorithms(suite) = ghj_suite_algorithms;
@@ -182,7 +182,7 @@ pub fn set_access_apply(
     unsafe { ghj_set_access_apply(mode_pair, limit_pair, access, settings, start, length) }
 }
 
-/// The data of Get Session Challenge.
+/// The data of Get Session Challenge; the type's whole number counts.
 pub fn challenge_request(auth_type: u8, name: &[u8], out: &mut [u8]) -> u64 {
     // SAFETY: each pointer goes with its slice's length, and `out` is lent to this call alone.
     unsafe {
@@ -196,7 +196,7 @@ pub fn challenge_request(auth_type: u8, name: &[u8], out: &mut [u8]) -> u64 {
     }
 }
 
-/// The data of Activate Session.
+/// The data of Activate Session; the whole numbers of type and level count.
 pub fn activation_request(
     auth_type: u8,
     privilege: u8,
@@ -214,7 +214,7 @@ pub fn best_auth(key: u8, md5: u8, md2: u8, none: u8) -> u64 {
     ghj_best_auth(key, md5, md2, none)
 }
 
-/// 0 where the first is weaker, 1 where they are equal, 2 where it is stronger.
+/// 0 where the first is weaker, 1 where they are equal, 2 where it is stronger; the types' whole numbers count.
 pub fn compare_strength(auth_type: u8, other: u8) -> u64 {
     ghj_compare_strength(auth_type, other)
 }

@@ -64,6 +64,11 @@ static void responses(void) {
     check("P9", refused(ghj_activation(activation, 10, out, sizeof out), GHJ_INVALID_PRIVILEGE_LEVEL, 6));
     activation[9] = 0xF4;
     check("P9", ghj_activation(activation, 10, out, sizeof out) == 10 && out[9] == 4);
+    /* The reserved bits of the type's byte. */
+    activation[0] = 0x12;
+    check("reserved bits", ghj_activation(activation, 10, out, sizeof out) == 10 && out[0] == 2);
+    activation[0] = 0x13;
+    check("reserved bits", refused(ghj_activation(activation, 10, out, sizeof out), GHJ_INVALID_AUTH_TYPE, 0x13));
     static const uint8_t part[17] = {0xC0};
     gives("suites", ghj_suites, part, 16, part, 16);
     gives("suites", ghj_suites, part, 0, part, 0);
@@ -137,8 +142,10 @@ static void requests(void) {
     refuses("capabilities request", ghj_capabilities_request(0, 6, out, 0), GHJ_INVALID_PRIVILEGE_LEVEL, 6);
     refuses("capabilities request", ghj_capabilities_request(0, 0xF4, out, 0), GHJ_INVALID_PRIVILEGE_LEVEL, 0xF4);
     refuses("challenge request", ghj_challenge_request(3, longest, 17, out, 0), GHJ_INVALID_AUTH_TYPE, 3);
+    refuses("challenge request", ghj_challenge_request(0x12, longest, 17, out, 0), GHJ_INVALID_AUTH_TYPE, 0x12);
     refuses("challenge request", ghj_challenge_request(0, longest, 17, out, 0), GHJ_LONG_NAME, 0);
     refuses("activation request", ghj_activation_request(5, 0, sixteen, 0, out, 0), GHJ_INVALID_AUTH_TYPE, 5);
+    refuses("activation request", ghj_activation_request(0x12, 0, sixteen, 0, out, 0), GHJ_INVALID_AUTH_TYPE, 0x12);
     refuses("activation request", ghj_activation_request(4, 0x14, sixteen, 0, out, 0), GHJ_INVALID_PRIVILEGE_LEVEL, 0x14);
     refuses("suites request", ghj_suites_request(0x0C, 0x40, out, 0), GHJ_NO_CHANNEL, 0);
     refuses("P3", ghj_suites_request(1, 0x40, out, 0), GHJ_BAD_INDEX, 0);
@@ -241,6 +248,7 @@ static void texts(void) {
     uint8_t out[1];
     refuses("channel text", ghj_channel_text(0x0C, out, 0), GHJ_NO_CHANNEL, 0);
     refuses("auth name", ghj_auth_type_name(3, out, 0), GHJ_INVALID_AUTH_TYPE, 3);
+    refuses("auth name", ghj_auth_type_name(0x12, out, 0), GHJ_INVALID_AUTH_TYPE, 0x12);
 }
 
 static void types(void) {
@@ -254,6 +262,7 @@ static void types(void) {
                   ghj_compare_strength(weakest_first[i], weakest_first[j]) == (i < j ? 0u : i == j ? 1u : 2u));
     refuses("strength", ghj_compare_strength(3, 5), GHJ_INVALID_AUTH_TYPE, 3);
     refuses("strength", ghj_compare_strength(0, 5), GHJ_INVALID_AUTH_TYPE, 5);
+    refuses("strength", ghj_compare_strength(0x12, 5), GHJ_INVALID_AUTH_TYPE, 0x12);
 }
 
 static void table(void) {

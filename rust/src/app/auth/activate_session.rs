@@ -55,7 +55,7 @@ pub struct BeginSessionInfo {
 
 impl BeginSessionInfo {
     /// Reads a response; refuses [`Error::NotEnoughData`], then [`Error::InvalidAuthType`], [`Error::InvalidZeroSession`],
-    /// [`Error::InvalidPrivilegeLevel`].
+    /// [`Error::InvalidPrivilegeLevel`]. Type and level count by the low nibble of their byte; a refusal carries the whole byte.
     pub fn parse(data: &[u8]) -> Result<Self, Error> {
         let [auth_type, i, j, k, l, p, q, r, s, level] = record(|out| sys::activation(data, out))?;
         let id = u32::from_le_bytes([i, j, k, l]);
@@ -88,7 +88,7 @@ mod tests {
         assert_eq!((message.netfn_raw(), message.cmd()), (0x06, 0x3A));
     }
 
-    /// P8 and P9.
+    /// P8 and P9; the reserved bits of the type's byte.
     #[test]
     fn answers() {
         let mut data = [2, 1, 0, 0, 0, 5, 0, 0, 0, 0xF4];
@@ -98,6 +98,8 @@ mod tests {
             initial_sequence_number: 5,
             maximum_privilege_level: PrivilegeLevel::Administrator,
         };
+        assert_eq!(BeginSessionInfo::parse(&data), Ok(begun.clone()));
+        data[0] = 0x12;
         assert_eq!(BeginSessionInfo::parse(&data), Ok(begun));
         assert_eq!(
             BeginSessionInfo::parse(&data[..9]),
@@ -117,6 +119,11 @@ mod tests {
         assert_eq!(
             BeginSessionInfo::parse(&data),
             Err(Error::InvalidAuthType(3))
+        );
+        data[0] = 0x13;
+        assert_eq!(
+            BeginSessionInfo::parse(&data),
+            Err(Error::InvalidAuthType(0x13))
         );
     }
 }
