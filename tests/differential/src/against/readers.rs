@@ -10,6 +10,7 @@ use oracle_core::app::auth::{
 use oracle_core::app::get_channel_access::GetChannelAccess;
 use oracle_core::app::get_channel_info::GetChannelInfo;
 use oracle_core::connection::{IpmiCommand, NotEnoughData};
+use oracle_core::differences;
 
 /// How many bytes of a list an answer has.
 const PART: usize = CAPACITY / PARTS;
@@ -17,13 +18,19 @@ const PART: usize = CAPACITY / PARTS;
 pub const LONGEST: usize = 40;
 const LONGEST_LIST: usize = 1100;
 
-/// A reader, what the crate says in its place, and a message that the crate accepts.
+/// docs/DIFFERENCES.md: the message that the crate is asked for in place of one where it is known to answer otherwise.
+pub type Instead = fn(&[u8]) -> Option<Vec<u8>>;
+
+pub const NEVER: Instead = |_| None;
+
+/// A reader, what the crate says in its place, and a message that is accepted.
 struct Reader {
     name: &'static str,
     refuses: bool,
     longest: usize,
     call: fn(&[u8], &mut [u8]) -> u64,
     expected: fn(&[u8]) -> Expected,
+    instead: Instead,
     usual: fn(&mut Random) -> Vec<u8>,
 }
 
@@ -34,6 +41,7 @@ const READERS: [Reader; 7] = [
         longest: LONGEST,
         call: sys::access,
         expected: access,
+        instead: NEVER,
         usual: |random| random.bytes(2),
     },
     Reader {
@@ -42,6 +50,7 @@ const READERS: [Reader; 7] = [
         longest: LONGEST,
         call: sys::info,
         expected: info,
+        instead: NEVER,
         usual: usual_info,
     },
     Reader {
@@ -50,6 +59,7 @@ const READERS: [Reader; 7] = [
         longest: LONGEST,
         call: sys::capabilities,
         expected: capabilities,
+        instead: NEVER,
         usual: usual_capabilities,
     },
     Reader {
@@ -58,6 +68,7 @@ const READERS: [Reader; 7] = [
         longest: LONGEST,
         call: sys::challenge,
         expected: challenge,
+        instead: NEVER,
         usual: usual_challenge,
     },
     Reader {
@@ -66,6 +77,7 @@ const READERS: [Reader; 7] = [
         longest: LONGEST,
         call: sys::activation,
         expected: activation,
+        instead: differences::activation,
         usual: usual_activation,
     },
     Reader {
@@ -74,6 +86,7 @@ const READERS: [Reader; 7] = [
         longest: LONGEST,
         call: sys::suites,
         expected: suites,
+        instead: NEVER,
         usual: |random| {
             let length = random.below(17);
             random.bytes(length)
@@ -85,6 +98,7 @@ const READERS: [Reader; 7] = [
         longest: LONGEST_LIST,
         call: sys::suite_numbers,
         expected: suite_numbers,
+        instead: NEVER,
         usual: usual_list,
     },
 ];
@@ -122,14 +136,17 @@ fn collected_suites(random: &mut Random, rounds: u64) -> Held {
 impl Reader {
     fn hold(&self, random: &mut Random, rounds: u64) -> Held {
         let mut held = Held::new(self.name, self.refuses);
-        let mut ask = |data: &[u8]| held.writes(data, &(self.expected)(data), self.call);
+        let mut ask = |data: &[u8]| {
+            let answer = held.answer(data, (self.instead)(data), self.expected);
+            held.writes(data, &answer, self.call);
+        };
         each_short(&mut ask);
         each_length(self.longest, random, &mut ask);
         each_prefix(&self.joined(random)[..self.longest], &mut ask);
         each_byte(&self.joined(random)[..LONGEST], &mut ask);
         for _ in 0..rounds {
             let usual = (self.usual)(random);
-            assert!((self.expected)(&usual).is_ok(), "{usual:02X?}");
+            assert!(self.accepts(&usual), "{usual:02X?}");
             ask(&usual);
             damaged(&usual, random).iter().for_each(|data| ask(data));
             let length = random.below(LONGEST + 1);
@@ -137,6 +154,10 @@ impl Reader {
             ask(&random.sparse(length));
         }
         held
+    }
+
+    fn accepts(&self, data: &[u8]) -> bool {
+        (self.expected)((self.instead)(data).as_deref().unwrap_or(data)).is_ok()
     }
 
     /// Messages one behind the other, as long as the longest input at least.
@@ -275,7 +296,8 @@ pub fn usual_challenge(random: &mut Random) -> Vec<u8> {
 
 pub fn usual_activation(random: &mut Random) -> Vec<u8> {
     let mut data = random.bytes(10);
-    data[0] = random.one_of(&[0, 1, 2, 4]);
+    let reserved = random.byte() / 16 * 16;
+    data[0] = random.one_of(&[0, reserved]) + random.one_of(&[0, 1, 2, 4]);
     // Sessions with a single byte that is not zero, so that the damaged ones have none.
     if random.below(4) == 0 {
         data[1..5].fill(0);
