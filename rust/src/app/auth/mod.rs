@@ -120,27 +120,14 @@ mod tests {
     fn numbers() {
         for value in 0..=u8::MAX {
             let nibble = value & 0x0F;
+            let named = |numbers: &[u8]| numbers.contains(&nibble).then_some(nibble).ok_or(());
             let auth_type = AuthType::try_from(value);
-            assert_eq!(
-                auth_type.map(u8::from),
-                if [0, 1, 2, 4].contains(&nibble) {
-                    Ok(nibble)
-                } else {
-                    Err(())
-                }
-            );
+            assert_eq!(auth_type.map(u8::from), named(&[0, 1, 2, 4]));
             if let Ok(auth_type) = auth_type {
                 assert_eq!(auth_type.to_string(), format!("{auth_type:?}"));
             }
-            let level = PrivilegeLevel::try_from(value).map(u8::from);
-            assert_eq!(
-                level,
-                if (1..=5).contains(&nibble) {
-                    Ok(nibble)
-                } else {
-                    Err(())
-                }
-            );
+            let level = PrivilegeLevel::try_from(value);
+            assert_eq!(level.map(u8::from), named(&[1, 2, 3, 4, 5]));
         }
     }
 
