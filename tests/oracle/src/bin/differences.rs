@@ -1,7 +1,9 @@
-//! Reads questions, a line each, and counts by their words those that the crate
-//! itself answers otherwise. Fails where these are not exactly the listed ones.
+//! Reads questions, a line each, and holds the recorded answers in the named
+//! file against what the crate itself answers. Counts by their words the
+//! questions where the two differ; fails where these are not exactly the listed
+//! ones.
 
-use oracle_core::{answer, crates_own, is_listed};
+use oracle_core::{crates_own, is_listed};
 use std::collections::BTreeMap;
 use std::io::{self, BufRead};
 use std::process::ExitCode;
@@ -9,11 +11,14 @@ use std::process::ExitCode;
 fn main() -> io::Result<ExitCode> {
     std::panic::set_hook(Box::new(|_| {}));
 
+    let path = std::env::args().nth(1).expect("the file of the answers");
+    let recorded = std::fs::read_to_string(path)?;
+    let mut recorded = recorded.lines();
     let mut counts: BTreeMap<String, u64> = BTreeMap::new();
     let mut faults = 0;
     for line in io::stdin().lock().split(b'\n') {
         let line = line?;
-        let differs = crates_own(&line) != answer(&line);
+        let differs = recorded.next() != Some(&crates_own(&line));
         if differs != is_listed(&line) {
             faults += 1;
             eprintln!("differences: {}", String::from_utf8_lossy(&line));
