@@ -5,7 +5,7 @@ use mathlib.Core.Option.{Option, none, some}
 use Rattle.base.specs.Choice.{if_then_else_, _=?_}
 use Rattle.base.specs.Little.{littleBytes}
 use Rattle.base.specs.Outcome.{Outcome, accepted, refused, _>>=_}
-use Rattle.tagged.specs.TaggedRecords.{entry, stepAt, suite, suiteWritten}
+use Rattle.tagged.specs.TaggedRecords.{entry, strictStepAt, suite, suiteWritten}
 use Rattle.tagged.specs.declared.tagged_records.Owner.{Owner}
 use Rattle.tagged.specs.declared.tagged_records.Owner.the-variants.{Standard, Vendor}
 use Rattle.tagged.specs.declared.tagged_records.TaggedRecord.{TaggedRecord}
@@ -22,7 +22,7 @@ stepBytes none = []
 -- a step of the reading
 abbrev pub stepRecord : List ℕ → ℕ → Outcome (List ℕ)
 stepRecord list position = do
-  step ← stepAt list position
+  step ← strictStepAt list position
   accepted (stepBytes step)
 
 -- 0 is the standard's, which has no vendor number; 1 a vendor's own; 9 for any other

@@ -99,8 +99,8 @@ abbrev pub recordAt : List ℕ → ℕ → Outcome TaggedRecord
 recordAt list position = startAt list position (ownerAt list position)
 
 -- a step: the record at a position, none at the end or past it
-abbrev pub stepAt : List ℕ → ℕ → Outcome (Option TaggedRecord)
-stepAt list position = if position <? length list then (do
+abbrev pub strictStepAt : List ℕ → ℕ → Outcome (Option TaggedRecord)
+strictStepAt list position = if position <? length list then (do
   r ← recordAt list position
   accepted (some r)) else
     accepted none
@@ -127,8 +127,8 @@ countOf list = do
   accepted (length records)
 
 -- "the strict list of suite numbers": of all records, in order
-abbrev pub numbersOf : List ℕ → Outcome (List ℕ)
-numbersOf list = do
+abbrev pub strictNumbersOf : List ℕ → Outcome (List ℕ)
+strictNumbersOf list = do
   records ← recordsOf list
   accepted (map (λ (r : TaggedRecord). r .number) records)
 

@@ -10,11 +10,11 @@ use lib.Dec.{eqb, ltb}
 use lib.ListN.{length, take, drop, length-drop, length-map, take-append-drop}
 use lib.Seq.{slice, drop-cons, drop-drop, drop-at, take-at, take-nil, getD-drop}
 use Rattle.base.specs.Choice.{if_then_else_}
-use Rattle.base.specs.Field.{byte}
+use Rattle.base.specs.Field.{Bytes, byte}
 use Rattle.base.specs.Little.{little}
 use Rattle.base.specs.Outcome.{Outcome, accepted}
 use Rattle.base.proofs.Outcome.{apart}
-use Rattle.base.proofs.little.Laws.{Bytes, a-byte, bytes-back, number-back, number-fits}
+use Rattle.base.proofs.little.Laws.{a-byte, bytes-back, bytes-drop, number-back, number-fits}
 use Rattle.tagged.specs.Format.{Suite, algorithmBytes, allFit, authenticationTag, confidentialityTag, fits, integrityTag, ownStart, ownerFits, standardStart, startBytes, suiteBytes, tagged}
 use Rattle.tagged.specs.TaggedRecords.{bodyAt, numberIn, numbersIn, ownerAt, reach, recordAt, recordWith, run, startLength, suite, suiteIn, tagIn}
 use Rattle.tagged.specs.declared.tagged_records.Owner.{Owner}
@@ -91,11 +91,6 @@ module _ (t : ℕ) (small : t < 4) where
       go : (v : Bool) → (if v then suc (run t s) else 0) ≡ 0 → (if v then suc (run t u) else 0) ≡ 0
       go true e = absurd (omega arith)
       go false e = refl
-
-pub bytes-drop : (n : ℕ) (s : List ℕ) → Bytes s → Bytes (drop n s)
-bytes-drop zero s b = b
-bytes-drop (suc n) [] b = b
-bytes-drop (suc n) (x ∷ s) b = bytes-drop n s (b .1)
 
 pub slice-take : (f k : ℕ) (s : List ℕ) → slice f (f + k) s ≡ take k (drop f s)
 slice-take zero k s = let z : 0 + k ≡ k = omega arith in rw z

@@ -9,9 +9,9 @@ use borrow.Author.Tests.{ne-eqb, lt-ltb, le-ltb, ltb-false}
 use lib.Dec.{ltb}
 use lib.ListN.{length, drop, length-drop, drop-of-length-le}
 use Rattle.base.specs.Choice.{if_then_else_}
+use Rattle.base.specs.Field.{Bytes}
 use Rattle.base.specs.Outcome.{Outcome, accepted, refused, isAccepted, _>>=_}
 use Rattle.base.proofs.Outcome.{Only, apart, no-form, steps}
-use Rattle.base.proofs.little.Laws.{Bytes}
 use Rattle.tagged.specs.Format.{Reading, Sequence, Suite, algorithmBytes, allFit, confidentialityTag, fits, integrityTag, ownerFits, sequenceBytes, startBytes, suiteBytes, suitesFit, tagged}
 use Rattle.tagged.specs.TaggedRecords.{recordAt, recordsFrom, recordsOf, run, allWritten, suiteIn, suiteWritten, suitesIn}
 use Rattle.tagged.specs.declared.tagged_records.Owner.{Owner}
