@@ -75,7 +75,7 @@ same-list list suites reading plain =
     let (records, e, f) = reading-accepted list suites reading in
     rw e (ap accepted (sym (numbers list records) ∙ ap (map (λ (s : Suite). s .number)) f ∙ sym (old-list list (length list) 0 suites (omega arith) plain (reading .1))))
 
--- The request's examples of refusal 16 and its place, and of the shortest record.
+-- Refusal 16 and its place, and the shortest record, by example.
 pub examples : (strictNumbersOf (0xC0 ∷ []) ≡ badRecord 1) × (strictNumbersOf (0xC0 ∷ 0x03 ∷ 0x41 ∷ []) ≡ badRecord 2) × (strictNumbersOf (0xC0 ∷ 0x03 ∷ 0x01 ∷ 0x00 ∷ []) ≡ badRecord 3)
     × (strictNumbersOf (0xC0 ∷ 0x03 ∷ 0x01 ∷ 0x81 ∷ 0x41 ∷ []) ≡ badRecord 4) × (strictNumbersOf (0xC0 ∷ 0x03 ∷ 0x01 ∷ []) ≡ accepted (3 ∷ [])) × (strictNumbersOf [] ≡ accepted [])
 unfolding recordsFrom

@@ -10,7 +10,7 @@ use Rattle.base.specs.Field.{Bytes}
 use Rattle.base.specs.Outcome.{Outcome, accepted, refused, isAccepted}
 use Rattle.base.proofs.little.Laws.{bytes-drop, bytes-take}
 use Rattle.collector.specs.Collector.{complete, missing, lastIndex, partLength, capacity, answerOf, wellFormed, taking, lowest, isComplete, standingOf, listOf}
-use Rattle.collector.specs.Demand.{Call, AllBytes, HeardIn, Explains, AllHeard, HasList, Explained, Demand3, IsList, controllers, collecting}
+use Rattle.collector.specs.Demand.{Call, AllBytes, HeardIn, Explains, AllHeard, Explained, Demand3, IsList, controllers, collecting}
 use Rattle.collector.specs.Histories.{Among, Reachable, Typed, after, acceptedOf}
 use Rattle.collector.specs.declared.Collector.{Collector}
 use Rattle.collector.proofs.Basic.{true-not-false, bool-cases, lt-or-le, eq-or-ne}
@@ -122,7 +122,7 @@ module _ (list : List ℕ) (s : IsList list) where
     complete-all : isComplete (after h) ≡ true → AllHeard controllers list h
     complete-all c i il = subst (HeardIn i) all (known h u .heard i (complete-heard (after h) list tells c i il))
 
-    whole : AllHeard controllers list h → HasList controllers list collecting h
+    whole : AllHeard controllers list h → (standingOf (after h) ≡ accepted (complete (length list))) × (listOf (after h) ≡ accepted list)
     whole y =
         let c : isComplete (after h) ≡ true = heard-complete (after h) list tells (λ i il. known h u .marked i (subst (HeardIn i) (sym all) (y i il)) .1) in (
           standing-complete (after h) (history h u .wf) c ∙ ap (λ (x : ℕ). accepted (complete x)) (complete-low (after h) list tells c),

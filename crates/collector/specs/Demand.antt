@@ -27,11 +27,15 @@ abbrev pub HeardIn : ℕ → List Call → Type 0
 HeardIn i [] = ⊥
 HeardIn i (call ∷ earlier) = (call .index ≡ i) ⊎ HeardIn i earlier
 
--- what takes answers: a fresh one, what an answer makes of it, where it stands, its bytes
+-- whatever takes answers
 pub record Keeper (S : Type 0) : Type 0 where
+  -- nothing heard
   pub fresh : S
+  -- what an answer with its index makes of it, or a refusal
   pub taking : S → ℕ → List ℕ → Outcome S
+  -- complete, or the index that it names
   pub standing : S → Outcome Standing
+  -- its bytes
   pub list : S → Outcome (List ℕ)
 
 -- what the calls make of a fresh one, a refused one changing nothing
@@ -44,11 +48,15 @@ unfoldable pub taken : {S : Type 0} → Keeper S → List Call → List Call
 taken k [] = []
 taken k (call ∷ earlier) = if isAccepted (k .taking (made k earlier) (call .index) (call .content)) then call ∷ taken k earlier else taken k earlier
 
--- who answers: which they are, the one unchanging list of each, what it answers an index with, maybe in several ways, and which contents are of legal length
+-- who answers
 pub record Controllers (X : Type 0) : Type 1 where
+  -- which of them count
   pub Suits : X → Type 0
+  -- "one unchanging list"
   pub list : X → List ℕ
+  -- what one answers an index with; there may be several such contents
   pub Answers : X → ℕ → List ℕ → Type 0
+  -- a content that is short enough, and has what every answer has
   pub Legal : List ℕ → Type 0
 
 module _ {X : Type 0} (c : Controllers X) (x : X) where

@@ -4,7 +4,7 @@ ghost use mathlib.Core.List.{[], _∷_, _++_};
 ghost use Prim.Native.Nat.{suc, _<_, _≤_};
 ghost use lib.ListN.{take};
 ghost use Rattle.tagged.specs.Format.{allFit, confidentialityTag, integrityTag, ownerFits, startBytes};
-ghost use Rattle.tagged.specs.TaggedRecords.{bodyAt, countOf, entriesOf, entry, entryLength, listingOf, numbersIn, reach, recordAt, retagged, saidCount, saidRecord, saidStep, startLength, strictNumbersOf, strictStepAt, suite, suiteWritten};
+ghost use Rattle.tagged.specs.TaggedRecords.{bodyAt, countOf, entriesOf, entry, entryLength, listingOf, numbersIn, reach, recordAt, retagged, saidCount, saidRecord, saidStep, startLength, strictNumbersOf, strictStepAt, suiteFrom, suiteWritten};
 ghost use Rattle.base.specs.Outcome.{accepted};
 ghost use Rattle.base.specs.Written.{Writes};
 use base::little::bytes4;
@@ -327,7 +327,7 @@ pub fn write(
     confidentiality: &[u8],
     out: &mut [u8],
 ) -> Written
-    ensures { λ r. ⌜ Writes (suiteWritten (suite owner number authentication (now (integrity .entry)) (now (confidentiality .entry)))) r (now (out .entry)) (now (out .exit)) ⌝ }
+    ensures { λ r. ⌜ Writes (suiteWritten (suiteFrom owner number authentication (now (integrity .entry)) (now (confidentiality .entry)))) r (now (out .entry)) (now (out .exit)) ⌝ }
 {
     if !owner_fits(owner) {
         return Written::Refused(Refusal::NoForm);

@@ -16,7 +16,7 @@ use Rattle.base.specs.Outcome.{Outcome, accepted}
 use Rattle.base.proofs.Outcome.{apart}
 use Rattle.base.proofs.little.Laws.{a-byte, bytes-back, bytes-drop, number-back, number-fits}
 use Rattle.tagged.specs.Format.{Suite, algorithmBytes, allFit, authenticationTag, confidentialityTag, fits, integrityTag, ownStart, ownerFits, standardStart, startBytes, suiteBytes, tagged}
-use Rattle.tagged.specs.TaggedRecords.{bodyAt, numberIn, numbersIn, ownerAt, reach, recordAt, recordWith, run, startLength, suite, suiteIn, tagIn}
+use Rattle.tagged.specs.TaggedRecords.{bodyAt, numberIn, numbersIn, ownerAt, reach, recordAt, recordWith, run, startLength, suiteFrom, suiteIn, tagIn}
 use Rattle.tagged.specs.declared.tagged_records.Owner.{Owner}
 use Rattle.tagged.specs.declared.tagged_records.Owner.the-variants.{Standard, Vendor}
 use Rattle.tagged.specs.declared.tagged_records.TaggedRecord.{TaggedRecord}
@@ -246,9 +246,9 @@ module _ (list : List ℕ) where
       let high : byte (p + 4) list ≡ v / 256 / 256 % 256 = at-place p 4 ∙ ap (byte 4) e in
       (rw (first, low, middle, high) (ap (λ (x : ℕ). some (Vendor x)) (number-back 3 v (ltb-true v (256 ^ 3) f))), at-place p 1 ∙ ap (byte 1) e, sym (drop-drop 5 p list) ∙ ap (drop 5) e)
 
-  body-back : (p at : ℕ) (owner : Owner) (n a : ℕ) (i c rest : List ℕ) → fits (suite owner n a i c) ≡ true → run confidentialityTag rest ≡ 0
+  body-back : (p at : ℕ) (owner : Owner) (n a : ℕ) (i c rest : List ℕ) → fits (suiteFrom owner n a i c) ≡ true → run confidentialityTag rest ≡ 0
       → run integrityTag (map (tagged confidentialityTag) c ++ rest) ≡ 0 → p ≤ at → drop at list ≡ algorithmBytes a i c ++ rest
-      → (r : TaggedRecord) × (bodyAt list owner n at ≡ accepted r) × (suiteIn list r ≡ suite owner n a i c) × (drop (r .end) list ≡ rest) × (p < r .end)
+      → (r : TaggedRecord) × (bodyAt list owner n at ≡ accepted r) × (suiteIn list r ≡ suiteFrom owner n a i c) × (drop (r .end) list ≡ rest) × (p < r .end)
   body-back p at owner n a i c rest f stop stop-i l e =
       let (f0, f1) = both-true (ownerFits owner) _ f in
       let (f2, f3) = both-true (ltb a 64) _ f1 in

@@ -15,7 +15,7 @@ use Rattle.base.specs.Outcome.{Outcome, accepted, refused, _>>=_}
 use Rattle.base.proofs.Outcome.{apart}
 use Rattle.base.proofs.little.Laws.{bytes-both, bytes-drop, bytes-zeros, zero-at}
 use Rattle.tagged.specs.Format.{Sequence, Suite, algorithmBytes, allFit, authenticationTag, confidentialityTag, fits, integrityTag, ownStart, ownerFits, sequenceBytes, standardStart, startBytes, suiteBytes, suitesFit, tagged}
-use Rattle.tagged.specs.TaggedRecords.{badRecord, recordAt, recordWith, recordsFrom, recordsOf, run, startLength, suite, suiteIn, tagIn}
+use Rattle.tagged.specs.TaggedRecords.{badRecord, recordAt, recordWith, recordsFrom, recordsOf, run, startLength, suiteFrom, suiteIn, tagIn}
 use Rattle.tagged.specs.declared.tagged_records.Owner.{Owner}
 use Rattle.tagged.specs.declared.tagged_records.Owner.the-variants.{Standard, Vendor}
 use Rattle.tagged.specs.declared.tagged_records.TaggedRecord.{TaggedRecord}
@@ -160,7 +160,7 @@ module _ (list : List ℕ) (b : Bytes list) where
       let short : j ≤ length start = omega arith in
       complete
       (drop p list)
-      (suite owner (byte (p + 1) list) 0 [] [])
+      (suiteFrom owner (byte (p + 1) list) 0 [] [])
       j
       (rw (owner-fits list b p owner s))
       (bytes-both start (0 ∷ []) c (omega arith, tt))

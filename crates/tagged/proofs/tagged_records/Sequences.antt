@@ -119,7 +119,7 @@ module _ (list : List ℕ) where
       go (accepted rs) e t = (suitesIn list rs, accepted-reads b rs e)
       go (refused n v) e t = let z : _≡_ {A = ℕ} 0 1 = cc in absurd (omega arith)
 
--- "What is read and written back is the bytes", and what is written is read as it was.
+-- "A writer gives back the bytes", and what is written is read as it was.
 
 suite-written : (s : Suite) → fits s ≡ true → suiteWritten s ≡ accepted (suiteBytes s)
 suite-written s f = rw f
