@@ -42,7 +42,7 @@ channelOf n =
       number ← channelNumberOf n
       accepted (Numbered number)
 
--- "a numbered channel that no number makes .. has as its value the number it holds"
+-- "a numbered channel that no number makes .. has as its value, the number it holds"
 abbrev pub valueOf : Channel → ℕ
 valueOf Primary = 0
 valueOf (Numbered number) = number .0

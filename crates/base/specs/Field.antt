@@ -1,7 +1,7 @@
 -- A field of a byte is a position and a width, as a row of the standard's tables.
-use Prim.Native.Nat.{ℕ, _+_, _*_, _/_, _%_, _^_}
+use Prim.Native.Nat.{ℕ, _+_, _*_, _/_, _%_, _^_, _<_}
 use mathlib.Core.Bool.{Bool}
-use mathlib.Core.List.{List, []}
+use mathlib.Core.List.{List, [], _∷_}
 use lib.ListN.{getD}
 use mir.Val.{boolByte}
 use Rattle.base.specs.Choice.{_=?_, if_from_to_then_else_}
@@ -17,6 +17,11 @@ saidField NoForm = refused 9 []
 -- byte k of a message
 abbrev pub byte : ℕ → List ℕ → ℕ
 byte k message = getD message k 0
+
+-- every element is a byte
+abbrev pub Bytes : List ℕ → Type 0
+Bytes [] = Unit {0}
+Bytes (byte ∷ bytes) = (byte < 256) × Bytes bytes
 
 -- a number as a field has it: 9 outside the field's range
 abbrev pub within : ℕ → ℕ → ℕ → Outcome ℕ

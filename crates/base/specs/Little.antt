@@ -1,4 +1,4 @@
--- Numbers of several bytes, low byte first. Document 01: "vendor 3 bytes, low first"; "session numbers are four bytes, low first".
+-- Numbers of several bytes, low byte first. Document 01: "vendor 3 bytes, low first"; "Session numbers are four bytes, low first".
 use Prim.Native.Nat.{ℕ, zero, suc, _+_, _*_, _/_, _%_}
 use mathlib.Core.List.{List, [], _∷_}
 

@@ -8,7 +8,7 @@ use Rattle.base.proofs.Walked.{UniqueWalk, facts}
 use Rattle.base.specs.Outcome.{Outcome}
 use Rattle.capi.specs.Number.{Codes, CodesAny, Takes}
 use Rattle.capi.specs.Table.{Steps}
-use Rattle.collector.specs.Shape.{held}
+use Rattle.collector.specs.Collector.{held}
 use Rattle.collector.specs.declared.Collector.{Collector}
 use Rattle.suites.specs.declared.get_channel_cipher_suites.Step.{Step}
 use Rattle.capi.proofs as p

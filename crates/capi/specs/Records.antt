@@ -8,7 +8,7 @@ use Rattle.info.specs.GetChannelInfo.{infoOf}
 use Rattle.layouts.specs.Layouts.{accessLayout, capabilitiesLayout, infoLayout}
 use Rattle.session.specs.ActivateSession.{beginBytes, beginOf}
 use Rattle.challenge.specs.GetSessionChallenge.{challengeBytes, challengeOf}
-use Rattle.suites.specs.GetChannelCipherSuites.{suitesBytes, suitesOf}
+use Rattle.suites.specs.GetChannelCipherSuites.{partOf, suitesBytes}
 
 -- temporary session number, four bytes, low first; the challenge
 abbrev pub challengeRecord : List ℕ → Outcome (List ℕ)
@@ -25,7 +25,7 @@ activationRecord response = do
 -- the part of the list
 abbrev pub suitesRecord : List ℕ → Outcome (List ℕ)
 suitesRecord response = do
-  suites ← suitesOf response
+  suites ← partOf response
   suitesBytes suites
 
 -- of a response of Get Channel Access

@@ -5,7 +5,7 @@ use mathlib.Core.Option.{Option, none, some}
 use Rattle.base.specs.Choice.{if_then_else_, _=?_}
 use Rattle.base.specs.Little.{littleBytes}
 use Rattle.base.specs.Outcome.{Outcome, accepted, refused, _>>=_}
-use Rattle.tagged.specs.TaggedRecords.{entry, stepAt, suite, suiteWritten}
+use Rattle.tagged.specs.TaggedRecords.{entry, strictStepAt, suiteFrom, suiteWritten}
 use Rattle.tagged.specs.declared.tagged_records.Owner.{Owner}
 use Rattle.tagged.specs.declared.tagged_records.Owner.the-variants.{Standard, Vendor}
 use Rattle.tagged.specs.declared.tagged_records.TaggedRecord.{TaggedRecord}
@@ -22,7 +22,7 @@ stepBytes none = []
 -- a step of the reading
 abbrev pub stepRecord : List ℕ → ℕ → Outcome (List ℕ)
 stepRecord list position = do
-  step ← stepAt list position
+  step ← strictStepAt list position
   accepted (stepBytes step)
 
 -- 0 is the standard's, which has no vendor number; 1 a vendor's own; 9 for any other
@@ -36,4 +36,4 @@ ownerFor kind vendor =
 abbrev pub recordWritten : ℕ → ℕ → ℕ → ℕ → List ℕ → List ℕ → Outcome (List ℕ)
 recordWritten kind vendor number authentication integrity confidentiality = do
   owner ← ownerFor kind vendor
-  suiteWritten (suite owner number authentication integrity confidentiality)
+  suiteWritten (suiteFrom owner number authentication integrity confidentiality)

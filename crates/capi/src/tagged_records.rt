@@ -4,7 +4,7 @@ ghost use Rattle.base.specs.Outcome.{accepted};
 ghost use Rattle.base.specs.Written.{Writes};
 ghost use Rattle.capi.specs.Number.{Codes, code};
 ghost use Rattle.capi.specs.TaggedRecords.{recordBytes, recordWritten, stepRecord};
-ghost use Rattle.tagged.specs.TaggedRecords.{countOf, listingOf, numbersIn, numbersOf};
+ghost use Rattle.tagged.specs.TaggedRecords.{countOf, listingOf, numbersIn, strictNumbersOf};
 use crate::code;
 use crate::refused;
 use base::little::bytes8;
@@ -67,7 +67,7 @@ pub extern "C" fn ghj_tagged_count(list: &[u8]) -> u64
 // The records' numbers, in their order.
 #[no_mangle]
 pub extern "C" fn ghj_tagged_numbers(list: &[u8], out: &mut [u8]) -> u64
-    ensures { λ r. ⌜ Codes (numbersOf (now (list .entry))) r (now (out .entry)) (now (out .exit)) ⌝ }
+    ensures { λ r. ⌜ Codes (strictNumbersOf (now (list .entry))) r (now (out .entry)) (now (out .exit)) ⌝ }
 {
     code(suite_numbers(list, out))
 }

@@ -3,16 +3,17 @@ use Prim.Native.Nat.{ℕ, zero, suc, _≤_, _<_}
 use mathlib.Core.Bool.{true}
 use mathlib.Core.List.{List, [], _∷_}
 use mathlib.Core.Logic.{inl, inr, ⊎-elim}
-use mathlib.Core.Path.{_≡_, refl, sym, ap, subst}
+use mathlib.Core.Path.{_≡_, refl, ap, subst}
 use native.Mathlib.Omega.{arith}
 use lib.ListN.{length, replicate}
+use Rattle.base.specs.Field.{Bytes}
 use Rattle.base.specs.Outcome.{Outcome, accepted, refused, isAccepted}
 use Rattle.base.specs.Verdict.{verdictOf}
-use Rattle.collector.specs.Collector.{answerOf, capacity, complete, fresh, listOf, missing, standingOf, taking}
-use Rattle.collector.specs.Histories.{Call, Calls, Explained, Explains, HeardIn, Honest, IsBytes, acceptedOf, after, lastOf}
+use Rattle.collector.specs.Collector.{answerOf, capacity, complete, fresh, missing, standingOf, taking}
+use Rattle.collector.specs.Demand.{AllHeard, Call, Explained, Explains, HeardIn, IsList, controllers, made, taken}
+use Rattle.collector.specs.Histories.{acceptedOf, after}
 use Rattle.collector.specs.declared.Collector.{Collector}
-use Rattle.collector.proofs.Asking.{honest-calls}
-use Rattle.collector.proofs.Demand.{accepted-exactly, complete-list, honest-explains, honest-never-refused, lowest-named, missing-before, refused-by-12, refused-exactly}
+use Rattle.collector.proofs.Demand.{demand-3, twelve-exactly}
 use Rattle.collector.proofs.Parts.{answer-length}
 use Rattle.collector.proofs.Step.{fresh-wf}
 
@@ -23,28 +24,25 @@ sevens n = replicate n 7
 abbrev pub call : ℕ → ℕ → Call
 call index bytes = record { index = index; content = sevens bytes }
 
-bytes : (n : ℕ) → IsBytes (sevens n)
-bytes zero k = omega arith
-bytes (suc n) zero = omega arith
-bytes (suc n) (suc k) = bytes n k
+bytes : (n : ℕ) → Bytes (sevens n)
+bytes zero = tt
+bytes (suc n) = (omega arith, bytes n)
 
--- answers that are one list's own
-module _ (n : ℕ) (s : length (sevens n) ≤ capacity) (h : List Call) (e : Honest (sevens n) h) where
-  all-accepted : acceptedOf h ≡ h
-  all-accepted = honest-never-refused (sevens n) (bytes n) s h e
+-- a list of so many bytes, and its answers
+module _ (n : ℕ) (s : length (sevens n) ≤ capacity) where
+  list : IsList (sevens n)
+  list = record { bytes = bytes n; size = s }
 
-  calls : Calls h
-  calls = honest-calls (sevens n) (bytes n) h e
+  module _ (h : List Call) (e : Explains controllers (sevens n) h) where
+    whole : AllHeard controllers (sevens n) h → standingOf (after h) ≡ accepted (complete (length (sevens n)))
+    whole all = demand-3 .its-list (sevens n) list h e all .0
 
-  explains : Explains (sevens n) (acceptedOf h)
-  explains = subst (Explains (sevens n)) (sym all-accepted) (honest-explains (sevens n) (bytes n) s h e)
-
-  whole : ((i : ℕ) → i ≤ lastOf (length (sevens n)) → HeardIn i h) → (standingOf (after h) ≡ accepted (complete (length (sevens n)))) × (listOf (after h) ≡ accepted (sevens n))
-  whole all = complete-list h calls (sevens n) s explains (λ i il. subst (HeardIn i) (sym all-accepted) (all i il))
+    all-accepted : acceptedOf h ≡ h
+    all-accepted = demand-3 .none-refused (sevens n) list h e
 
 -- its list is then computed to be empty
 pub P11 : standingOf (after (call 0 0 ∷ [])) ≡ accepted (complete 0)
-P11 = whole 0 (omega arith) (call 0 0 ∷ []) ((omega arith, refl), tt) (λ i il. let z : 0 ≡ i = omega arith in inl z) .0
+P11 = whole 0 (omega arith) (call 0 0 ∷ []) ((omega arith, refl), tt) (λ i il. let z : 0 ≡ i = omega arith in inl z)
 
 abbrev two : List Call
 two = call 2 0 ∷ call 0 16 ∷ []
@@ -52,25 +50,23 @@ two = call 2 0 ∷ call 0 16 ∷ []
 abbrev three : List Call
 three = call 1 3 ∷ two
 
-honest-two : Honest (sevens 19) two
+honest-two : Explains controllers (sevens 19) two
 honest-two = ((omega arith, refl), ((omega arith, refl), tt))
 
 pub P12-first : standingOf (after two) ≡ accepted (missing 1)
 P12-first =
-    let q : acceptedOf two ≡ two = all-accepted 19 (omega arith) two honest-two in
-    let u : Calls two = calls 19 (omega arith) two honest-two in
     let unheard : HeardIn 1 two → ⊥ = λ x. ⊎-elim (λ (z : 2 ≡ 1). omega arith) (λ y. ⊎-elim (λ (z : 0 ≡ 1). omega arith) (λ n. n) y) x in
-    let (k, e) = missing-before two u (sevens 19) (omega arith) (explains 19 (omega arith) two honest-two) (λ all. unheard (subst (HeardIn 1) q (all 1 (omega arith)))) in
-    go k e (lowest-named two u k e) q unheard
+    let (k, e, un, under) = demand-3 .names-lowest (sevens 19) (list 19 (omega arith)) two honest-two (λ all. unheard (all 1 (omega arith))) in
+    go k e un under unheard
   where
-    go : (k : ℕ) → standingOf (after two) ≡ accepted (missing k) → (HeardIn k (acceptedOf two) → ⊥) × ((j : ℕ) → j < k → HeardIn j (acceptedOf two)) × (k ≤ 63) → acceptedOf two ≡ two → (HeardIn 1 two → ⊥) → standingOf (after two) ≡ accepted (missing 1)
-    go zero e named q n = absurd (named .0 (subst (HeardIn 0) (sym q) (inr (inl refl))))
-    go (suc zero) e named q n = e
-    go (suc (suc k)) e named q n = absurd (n (subst (HeardIn 1) q (named .1 1 (omega arith))))
+    go : (k : ℕ) → standingOf (after two) ≡ accepted (missing k) → (HeardIn k two → ⊥) → ((j : ℕ) → j < k → HeardIn j two) → (HeardIn 1 two → ⊥) → standingOf (after two) ≡ accepted (missing 1)
+    go zero e un under n = absurd (un (inr (inl refl)))
+    go (suc zero) e un under n = e
+    go (suc (suc k)) e un under n = absurd (n (under 1 (omega arith)))
 
 pub P12-then : standingOf (after three) ≡ accepted (complete 19)
 P12-then =
-    whole 19 (omega arith) three ((omega arith, refl), honest-two) (λ i il. heard i (omega arith)) .0
+    whole 19 (omega arith) three ((omega arith, refl), honest-two) (λ i il. heard i (omega arith))
   where
     heard : (i : ℕ) → i ≤ 1 → HeardIn i three
     heard zero h = inr (inr (inl refl))
@@ -82,19 +78,16 @@ refused-as x e = rw e
 
 pub P13 : verdictOf (taking (after (call 1 3 ∷ [])) 2 (sevens 1)) ≡ refused 12 []
 P13 =
-    let h : List Call = call 1 3 ∷ [] in
-    let e : Honest (sevens 19) (call 1 3 ∷ []) = ((omega arith, refl), tt) in
-    let u : Calls (call 1 3 ∷ []) = calls 19 (omega arith) (call 1 3 ∷ []) e in
-    let q : acceptedOf (call 1 3 ∷ []) ≡ call 1 3 ∷ [] = all-accepted 19 (omega arith) (call 1 3 ∷ []) e in
-    let none : Explained (call 2 1 ∷ acceptedOf (call 1 3 ∷ [])) → ⊥ =
-    λ x. let f : answerOf (x .list) 1 ≡ sevens 3 = subst (Explains (x .list)) q (x .explains .1) .0 in
-    omega (arith, ap length f, ap length (x .explains .0), answer-length (x .list) 1, answer-length (x .list) 2) in
-    refused-as (taking (after (call 1 3 ∷ [])) 2 (sevens 1)) (refused-by-12 (call 1 3 ∷ []) u (call 2 1) (bytes 1) (omega arith) (omega arith) (refused-exactly (call 1 3 ∷ []) u (call 2 1) (bytes 1) (omega arith) .1 none))
+    let q : acceptedOf (call 1 3 ∷ []) ≡ call 1 3 ∷ [] = all-accepted 19 (omega arith) (call 1 3 ∷ []) ((omega arith, refl), tt) in
+    let none : Explained controllers (call 2 1 ∷ acceptedOf (call 1 3 ∷ [])) → ⊥ =
+    λ x. let f : answerOf (x .source) 1 ≡ sevens 3 = subst (Explains controllers (x .source)) q (x .explains .1) .0 .1 in
+    omega (arith, ap length f, ap length (x .explains .0 .1), answer-length (x .source) 1, answer-length (x .source) 2) in
+    refused-as (taking (after (call 1 3 ∷ [])) 2 (sevens 1)) (twelve-exactly (call 1 3 ∷ []) (bytes 3, tt) (call 2 1) (bytes 1) .1 (omega arith, omega arith, none))
 
 pub sixteen-at-63 : verdictOf (taking fresh 63 (sevens 16)) ≡ accepted tt
-unfolding after acceptedOf
+unfolding made taken
 sixteen-at-63 =
-    go (taking fresh 63 (sevens 16)) (accepted-exactly [] tt (call 63 16) (bytes 16) (omega arith) .1 (record { list = sevens 1024; size = omega arith; bytes = bytes 1024; explains = (refl, tt) }))
+    go (taking fresh 63 (sevens 16)) (demand-3 .accepted-exactly [] tt (call 63 16) (bytes 16) (omega arith) (omega arith) .1 (record { source = sevens 1024; suits = list 1024 (omega arith); explains = ((omega arith, refl), tt) }))
   where
     go : (x : Outcome Collector) → isAccepted x ≡ true → verdictOf x ≡ accepted tt
     go (accepted c) e = refl

@@ -12,7 +12,7 @@ use Rattle.base.specs.Field.{byte}
 use Rattle.base.specs.Outcome.{accepted}
 use Rattle.suites.specs.GetChannelCipherSuites as Old
 use Rattle.tagged.specs.Format.{Reading, Suite, sequenceBytes, suiteBytes, tagged}
-use Rattle.tagged.specs.TaggedRecords.{badRecord, numbersOf, recordsFrom, suitesIn}
+use Rattle.tagged.specs.TaggedRecords.{badRecord, recordsFrom, strictNumbersOf, suitesIn}
 use Rattle.tagged.specs.declared.tagged_records.Owner.the-variants.{Standard}
 use Rattle.tagged.specs.declared.tagged_records.TaggedRecord.{TaggedRecord}
 use Rattle.tagged.proofs.tagged_records.Format.{at-place}
@@ -70,13 +70,13 @@ module _ (list : List ℕ) where
       let (here, there) = step p s (sequenceBytes suites) (h .0) e in
       rw here (ap (λ (l : List ℕ). s .number ∷ l) (old-list k (p + 5) suites (omega arith) (h .1) there))
 
-pub same-list : (list : List ℕ) (suites : List Suite) → Reading list suites → AllPlain suites → numbersOf list ≡ accepted (Old.numbersOf list)
+pub same-list : (list : List ℕ) (suites : List Suite) → Reading list suites → AllPlain suites → strictNumbersOf list ≡ accepted (Old.numbersOf list)
 same-list list suites reading plain =
     let (records, e, f) = reading-accepted list suites reading in
     rw e (ap accepted (sym (numbers list records) ∙ ap (map (λ (s : Suite). s .number)) f ∙ sym (old-list list (length list) 0 suites (omega arith) plain (reading .1))))
 
--- The request's examples of refusal 16 and its place, and of the shortest record.
-pub examples : (numbersOf (0xC0 ∷ []) ≡ badRecord 1) × (numbersOf (0xC0 ∷ 0x03 ∷ 0x41 ∷ []) ≡ badRecord 2) × (numbersOf (0xC0 ∷ 0x03 ∷ 0x01 ∷ 0x00 ∷ []) ≡ badRecord 3)
-    × (numbersOf (0xC0 ∷ 0x03 ∷ 0x01 ∷ 0x81 ∷ 0x41 ∷ []) ≡ badRecord 4) × (numbersOf (0xC0 ∷ 0x03 ∷ 0x01 ∷ []) ≡ accepted (3 ∷ [])) × (numbersOf [] ≡ accepted [])
+-- Refusal 16 and its place, and the shortest record, by example.
+pub examples : (strictNumbersOf (0xC0 ∷ []) ≡ badRecord 1) × (strictNumbersOf (0xC0 ∷ 0x03 ∷ 0x41 ∷ []) ≡ badRecord 2) × (strictNumbersOf (0xC0 ∷ 0x03 ∷ 0x01 ∷ 0x00 ∷ []) ≡ badRecord 3)
+    × (strictNumbersOf (0xC0 ∷ 0x03 ∷ 0x01 ∷ 0x81 ∷ 0x41 ∷ []) ≡ badRecord 4) × (strictNumbersOf (0xC0 ∷ 0x03 ∷ 0x01 ∷ []) ≡ accepted (3 ∷ [])) × (strictNumbersOf [] ≡ accepted [])
 unfolding recordsFrom
 examples = (refl, refl, refl, refl, refl, refl)

@@ -1,6 +1,6 @@
 -- The tests of a collector as facts, and what a list tells of one. Omega reads 16, 63, 64 and 1024 as numerals only, so they stand so in these proofs.
 use Prim.Native.Nat.{ℕ, zero, suc, _+_, _-_, _*_, _/_, _%_, _≤_, _<_, min}
-use mathlib.Core.Path.{_≡_, refl, sym, _∙_}
+use mathlib.Core.Path.{_≡_, refl, sym}
 use mathlib.Core.Logic.{_⊎_, inl, inr, ⊎-elim}
 use mathlib.Core.List.{List}
 use mathlib.Core.Bool.{Bool, true, false}
@@ -11,16 +11,16 @@ use lib.Dec.{ltb, eqb}
 use borrow.Author.Tests.{eq-eqb, ne-eqb, lt-ltb, le-ltb, ltb-true, ltb-false, eqb-true, eqb-false}
 use Rattle.collector.specs.Collector.{_and_, allBelow, endOf, leastTo, markFits, byteFits, marksFit, bytesFit}
 
+pub true-not-false : {b : Bool} → b ≡ true → b ≡ false → ⊥
+true-not-false p q = let z : _≡_ {A = ℕ} 0 1 = cc in omega arith
+
 pub both-left : (a b : Bool) → (a and b) ≡ true → a ≡ true
 both-left true b e = refl
 both-left false b e = e
 
 pub both-right : (a b : Bool) → (a and b) ≡ true → b ≡ true
 both-right true b e = e
-both-right false b e = absurd (never e)
-  where
-    never : false ≡ true → ⊥
-    never q = let z : _≡_ {A = ℕ} 0 1 = cc in omega arith
+both-right false b e = absurd (true-not-false e refl)
 
 pub both-true : (a b : Bool) → a ≡ true → b ≡ true → (a and b) ≡ true
 both-true a b e f = rw (e, f)
@@ -51,10 +51,7 @@ module _ (p : ℕ → Bool) where
 
   pub all-not : (n : ℕ) (k : ℕ) → k < n → p k ≡ false → allBelow n p ≡ false
   all-not n k l e =
-      ⊎-elim (λ t. absurd (never (sym (all-at n t k l) ∙ e))) (λ f. f) (bool-cases (allBelow n p))
-    where
-      never : true ≡ false → ⊥
-      never q = let z : _≡_ {A = ℕ} 0 1 = cc in omega arith
+      ⊎-elim (λ t. absurd (true-not-false (all-at n t k l) e)) (λ f. f) (bool-cases (allBelow n p))
 
 -- the bound from below
 

@@ -11,8 +11,9 @@ use lib.Dec.{ltb, eqb}
 use borrow.Author.Tests.{eq-eqb, ne-eqb, lt-ltb, le-ltb, ltb-true, eqb-true}
 use Rattle.collector.specs.declared.Collector.{Collector}
 use Rattle.collector.specs.Collector.{_and_, _or_, leastTo, lowest, isComplete}
-use Rattle.collector.specs.Histories.{Held, lastOf}
-use Rattle.collector.proofs.Basic.{both-left, both-right, both-true, lt-or-le, eq-or-ne, le-low, end-large, low-under}
+use Rattle.collector.specs.Demand.{controllers, lastNeeded}
+use Rattle.collector.specs.Histories.{Typed}
+use Rattle.collector.proofs.Basic.{true-not-false, both-left, both-right, both-true, lt-or-le, eq-or-ne, le-low, end-large, low-under}
 use Rattle.collector.proofs.Step.{TellsOf}
 use Rattle.collector.proofs.Heard.{Marked}
 
@@ -70,9 +71,15 @@ either-right : (a b : Bool) → b ≡ true → (a or b) ≡ true
 either-right true b e = refl
 either-right false b e = e
 
+pub incomplete-low : (c : Collector) → isComplete c ≡ false → lowest (c .marks) 64 < 64
+unfolding isComplete
+incomplete-low c f =
+    let m : lowest (c .marks) 64 ≤ 64 = lowest-le (c .marks) 64 in
+    ⊎-elim (λ (e : lowest (c .marks) 64 ≡ 64). absurd (true-not-false (rw (eq-eqb (lowest (c .marks) 64) 64 e)) f)) (λ (n : lowest (c .marks) 64 ≡ 64 → ⊥). omega arith) (eq-or-ne (lowest (c .marks) 64) 64)
+
 module _ (c : Collector) (l : List ℕ) (t : TellsOf l c) where
   -- complete: the lowest unheard index is past the last that the list needs
-  past : isComplete c ≡ true → lastOf (length l) < lowest (c .marks) 64
+  past : isComplete c ≡ true → lastNeeded controllers l < lowest (c .marks) 64
   unfolding isComplete
   past e =
       let s : length l ≤ 1024 = t .size in
@@ -85,42 +92,38 @@ module _ (c : Collector) (l : List ℕ) (t : TellsOf l c) where
       omega (arith, t .marks (lowest (c .marks) 64 - 1) (omega arith) n))
       (either-cases _ _ e)
 
-  pub complete-heard : isComplete c ≡ true → (i : ℕ) → i ≤ lastOf (length l) → Marked c i
+  pub complete-heard : isComplete c ≡ true → (i : ℕ) → i ≤ lastNeeded controllers l → Marked c i
   complete-heard e i h = lowest-below (c .marks) 64 i (omega (arith, past e))
 
-  pub heard-complete : ((i : ℕ) → i ≤ lastOf (length l) → Marked c i) → isComplete c ≡ true
+  pub heard-complete : ((i : ℕ) → i ≤ lastNeeded controllers l → Marked c i) → isComplete c ≡ true
   unfolding isComplete
   heard-complete h =
       let r : lowest (c .marks) 64 ≤ 64 = lowest-le (c .marks) 64 in
       ⊎-elim (λ (f : lowest (c .marks) 64 ≡ 64). rw (eq-eqb (lowest (c .marks) 64) 64 f))
       (λ (f : lowest (c .marks) 64 ≡ 64 → ⊥).
       let free : getD (c .marks) (lowest (c .marks) 64) 0 ≡ 0 = lowest-at (c .marks) 64 (omega arith) in
-      ⊎-elim (λ (g : lastOf (length l) < lowest (c .marks) 64).
+      ⊎-elim (λ (g : lastNeeded controllers l < lowest (c .marks) 64).
       let n : getD (c .marks) (lowest (c .marks) 64 - 1) 0 ≡ 0 → ⊥ = lowest-below (c .marks) 64 (lowest (c .marks) 64 - 1) (omega arith) in
       either-right (eqb (lowest (c .marks) 64) 64) _
       (both-true _ _ (lt-ltb 0 (lowest (c .marks) 64) (omega arith))
       (lt-ltb (getD (c .marks) (lowest (c .marks) 64 - 1) 0) 17 (omega (arith, t .marks (lowest (c .marks) 64 - 1) (omega arith) n)))))
-      (λ (g : lowest (c .marks) 64 ≤ lastOf (length l)). absurd (h (lowest (c .marks) 64) g free))
-      (lt-or-le (lastOf (length l)) (lowest (c .marks) 64)))
+      (λ (g : lowest (c .marks) 64 ≤ lastNeeded controllers l). absurd (h (lowest (c .marks) 64) g free))
+      (lt-or-le (lastNeeded controllers l) (lowest (c .marks) 64)))
       (eq-or-ne (lowest (c .marks) 64) 64)
 
   pub complete-low : isComplete c ≡ true → leastTo (c .marks) 64 ≡ length l
   complete-low e =
       let s : length l ≤ 1024 = t .size in
       let under : leastTo (c .marks) 64 ≤ length l = low-under (c .marks) (length l) (t .marks) in
-      ⊎-elim (λ (z : length l ≤ 0). omega arith)
+      ⊎-elim
       (λ (p : 0 < length l).
       let i : ℕ = (length l - 1) / 16 in
       let n : Marked c i = complete-heard e i (omega arith) in
       let m : getD (c .marks) i 0 ≡ suc (min 16 (length l - 16 * i)) = t .marks i (omega arith) n in
       omega (arith, end-large i (getD (c .marks) i 0) (omega arith), le-low (c .marks) 64 i (omega arith)))
-      (swap (lt-or-le 0 (length l)))
-    where
-      swap : {A B : Type 0} → A ⊎ B → B ⊎ A
-      swap (inl a) = inr a
-      swap (inr b) = inl b
+      (λ (z : length l ≤ 0). omega arith) (lt-or-le 0 (length l))
 
-  pub complete-bytes : Held c → isComplete c ≡ true → take (leastTo (c .marks) 64) (c .bytes) ≡ l
+  pub complete-bytes : Typed c → isComplete c ≡ true → take (leastTo (c .marks) 64) (c .bytes) ≡ l
   complete-bytes ty e =
       let s : length l ≤ 1024 = t .size in
       let b : length (c .bytes) ≡ 1024 = ty .bytes in

@@ -1,259 +1,186 @@
--- Demand 3, sentence by sentence, of the definitions that the promises cite. A history is any list of calls, the latest first.
-use Prim.Native.Nat.{ℕ, zero, suc, _/_, _≤_, _<_}
-use mathlib.Core.Bool.{Bool, true, false}
+-- The collector keeps demand 3 (specs/Demand.antt); and what document 01 says of it besides. A history is any list of calls, the latest first.
+use Prim.Native.Nat.{ℕ, suc, _+_, _-_, _*_, _/_, _≤_, _<_, min}
+use mathlib.Core.Bool.{true, false}
 use mathlib.Core.List.{List, [], _∷_}
 use mathlib.Core.Logic.{_↔_, _⊎_, inl, inr, ⊎-elim}
 use mathlib.Core.Path.{_≡_, refl, sym, ap, _∙_, subst}
 use native.Mathlib.Omega.{arith}
-use lib.ListN.{length, getD}
-use Rattle.base.specs.Choice.{if_then_else_}
+use lib.ListN.{length, drop, getD}
+use Rattle.base.specs.Field.{Bytes}
 use Rattle.base.specs.Outcome.{Outcome, accepted, refused, isAccepted}
-use Rattle.base.specs.Verdict.{recordOf}
-use Rattle.collector.specs.Collector.{complete, missing, lastIndex, partLength, capacity, answerOf, leastTo, wellFormed, taking, lowest, isComplete, standingOf, listOf}
-use Rattle.collector.specs.Histories.{Call, IsBytes, Calls, after, acceptedOf, Explains, Explained, Honest, HeardIn, Among, lastOf, asking, Reachable, Held}
+use Rattle.base.proofs.little.Laws.{bytes-drop, bytes-take}
+use Rattle.collector.specs.Collector.{complete, missing, lastIndex, partLength, capacity, answerOf, wellFormed, taking, lowest, isComplete, standingOf, listOf}
+use Rattle.collector.specs.Demand.{Call, AllBytes, HeardIn, Explains, AllHeard, Explained, Demand3, IsList, controllers, collecting}
+use Rattle.collector.specs.Histories.{Among, Reachable, Typed, after, acceptedOf}
 use Rattle.collector.specs.declared.Collector.{Collector}
-use Rattle.collector.proofs.Asking.{Asked, asked, honest-calls, honest-accepted, honest-tells, not-yet}
-use Rattle.collector.proofs.Basic.{bool-cases, lt-or-le, eq-or-ne}
-use Rattle.collector.proofs.Complete.{lowest-le, lowest-below, lowest-at, lowest-is, complete-heard, complete-low, complete-bytes, heard-complete}
+use Rattle.collector.proofs.Basic.{true-not-false, bool-cases, lt-or-le, eq-or-ne}
+use Rattle.collector.proofs.Complete.{lowest-below, lowest-at, incomplete-low, complete-heard, complete-low, complete-bytes, heard-complete}
 use Rattle.collector.proofs.Entries.{taking-9, standing-9, standing-complete, standing-missing, list-9, list-complete, list-missing}
-use Rattle.collector.proofs.Heard.{known, among-explains, repeat-accepted}
-use Rattle.collector.proofs.History.{History, history, explained, accepted-explained, explained-accepted}
-use Rattle.collector.proofs.Parts.{answer-length}
+use Rattle.collector.proofs.Heard.{known, among-explains, among-heard, heard-among, repeat-by}
+use Rattle.collector.proofs.History.{history, explained, accepted-explained, explained-accepted}
+use Rattle.collector.proofs.Keeping.{not-exactly, explained-bytes, none-refused, asking-ends}
+use Rattle.collector.proofs.Parts.{answer-length, answer-at}
 use Rattle.collector.proofs.Reach.{wf-reachable, reachable-wf}
-use Rattle.collector.proofs.Step.{TellsOf, true-not-false, wf-zeros, StepView, view}
+use Rattle.collector.proofs.Step.{TellsOf, wf-zeros, StepView, view}
 use Rattle.collector.proofs.Step.StepView.{bad-index, too-long, repeats, differs, joins, clashes}
 
--- Of one list of at most 1,024 bytes.
-module _ (list : List ℕ) (b : IsBytes list) (s : length list ≤ capacity) where
-  -- "Honest answers in any order, repeated or lost, are never refused": after any of them, the next
-  pub honest-accepted-next : (h : List Call) → Honest list h → (i : ℕ) → i ≤ lastIndex → isAccepted (taking (after h) i (answerOf list i)) ≡ true
-  honest-accepted-next h e i il = honest-accepted list b s h e i (omega arith)
-
-  -- the same of a whole history: every call in it was accepted
-  pub honest-never-refused : (h : List Call) → Honest list h → acceptedOf h ≡ h
-  unfolding acceptedOf
-  honest-never-refused [] e = refl
-  honest-never-refused (a ∷ h) e =
-      let y : isAccepted (taking (after h) (a .index) (a .content)) ≡ true =
-      subst (λ (d : List ℕ). isAccepted (taking (after h) (a .index) d) ≡ true) (e .0 .1) (honest-accepted-next h (e .1) (a .index) (e .0 .0)) in
-      rw y (ap (_∷_ a) (honest-never-refused h (e .1)))
-
-  -- and the list explains them
-  pub honest-explains : (h : List Call) → Honest list h → Explains list h
-  honest-explains [] e = tt
-  honest-explains (a ∷ h) e = (e .0 .1, honest-explains h (e .1))
-
-  -- "Always asking the lowest unheard, all heard": the first k answers are k honest ones, at the indexes below k
-  pub asking-honest : (k : ℕ) → k ≤ suc (lastOf (length list)) → Honest list (asking list k)
-  asking-honest k h = asked list b s k h .honest
-
-  pub asking-length : (k : ℕ) → length (asking list k) ≡ k
-  unfolding asking
-  asking-length zero = refl
-  asking-length (suc k) = ap suc (asking-length k)
-
-  asking-wf : (k : ℕ) → k ≤ suc (lastOf (length list)) → wellFormed (after (asking list k)) ≡ true
-  asking-wf k h = history (asking list k) (honest-calls list b (asking list k) (asking-honest k h)) .wf
-
-  -- "complete after exactly min(63, n/16) + 1 answers, and not before": after k of them, k is missing ..
-  pub asking-not-before : (k : ℕ) → k ≤ lastOf (length list) → standingOf (after (asking list k)) ≡ accepted (missing k)
-  asking-not-before k h =
-      let p : Asked list b s k = asked list b s k (omega arith) in
-      let q : lowest (after (asking list k) .marks) 64 ≡ k = lowest-is (after (asking list k) .marks) 64 k (omega arith) (p .marked) (λ _. p .free k (omega arith)) in
-      standing-missing (after (asking list k)) (asking-wf k (omega arith)) (not-yet list b s k h) ∙ ap (λ (x : ℕ). accepted (missing x)) q
-
-  -- .. and after as many as that it is complete, and its bytes are the list
-  pub asking-complete : (standingOf (after (asking list (suc (lastOf (length list))))) ≡ accepted (complete (length list))) × (listOf (after (asking list (suc (lastOf (length list))))) ≡ accepted list)
-  asking-complete =
-      let k : ℕ = suc (lastOf (length list)) in
-      let c : Collector = after (asking list k) in
-      let p : Asked list b s k = asked list b s k (omega arith) in
-      let t : TellsOf list c = honest-tells list b s (asking list k) (p .honest) in
-      let d : isComplete c ≡ true = heard-complete c list t (λ i h. p .marked i (omega arith)) in
-      let m : History (asking list k) = history (asking list k) (honest-calls list b (asking list k) (p .honest)) in (
-        standing-complete c (m .wf) d ∙ ap (λ (x : ℕ). accepted (complete x)) (complete-low c list t d),
-        list-complete c (m .wf) d ∙ ap accepted (complete-bytes c list t (m .typed) d),
-      )
+-- where it stands, told
 
 complete-or : (c : Collector) (n : ℕ) → wellFormed c ≡ true → standingOf c ≡ accepted (complete n) → isComplete c ≡ true
 complete-or c n w e =
     ⊎-elim (λ (t : isComplete c ≡ true). t)
-    (λ (f : isComplete c ≡ false). let a : standingOf c ≡ accepted (missing (lowest (c .marks) 64)) = standing-missing c w f in let z : _≡_ {A = ℕ} 0 1 = cc in absurd (omega arith))
+    (λ (f : isComplete c ≡ false). let z : _≡_ {A = ℕ} 0 1 = cc (standing-missing c w f) in absurd (omega arith))
     (bool-cases (isComplete c))
 
 missing-or : (c : Collector) (k : ℕ) → wellFormed c ≡ true → standingOf c ≡ accepted (missing k) → (isComplete c ≡ false) × (k ≡ lowest (c .marks) 64)
 missing-or c k w e =
-    ⊎-elim
-    (λ (t : isComplete c ≡ true). let a : standingOf c ≡ accepted (complete (leastTo (c .marks) 64)) = standing-complete c w t in let z : _≡_ {A = ℕ} 0 1 = cc in absurd (omega arith))
-    (λ (f : isComplete c ≡ false). let a : standingOf c ≡ accepted (missing (lowest (c .marks) 64)) = standing-missing c w f in (f, cc))
+    ⊎-elim (λ (t : isComplete c ≡ true). let z : _≡_ {A = ℕ} 0 1 = cc (standing-complete c w t) in absurd (omega arith))
+    (λ (f : isComplete c ≡ false). (f, cc (standing-missing c w f)))
     (bool-cases (isComplete c))
 
 -- Of any history.
-module _ (h : List Call) (u : Calls h) where
-  -- it is complete, or an index is missing; no collector that calls make is refused
-  pub standing-told : ((n : ℕ) × (standingOf (after h) ≡ accepted (complete n))) ⊎ ((k : ℕ) × (standingOf (after h) ≡ accepted (missing k)))
-  standing-told =
-      ⊎-elim (λ (t : isComplete (after h) ≡ true). inl (leastTo (after h .marks) 64, standing-complete (after h) (history h u .wf) t))
-      (λ (f : isComplete (after h) ≡ false). inr (lowest (after h .marks) 64, standing-missing (after h) (history h u .wf) f))
-      (bool-cases (isComplete (after h)))
-
-  -- "the lowest unheard index is named: it is unheard, and all below it are heard"
+module _ (h : List Call) (u : AllBytes h) where
+  -- where an index is missing, it is the lowest that no accepted answer has
   pub lowest-named : (k : ℕ) → standingOf (after h) ≡ accepted (missing k) → (HeardIn k (acceptedOf h) → ⊥) × ((j : ℕ) → j < k → HeardIn j (acceptedOf h)) × (k ≤ lastIndex)
   lowest-named k e =
       let (f, q) = missing-or (after h) k (history h u .wf) e in
-      let low : lowest (after h .marks) 64 ≤ 64 = lowest-le (after h .marks) 64 in
-      let l : Explained (acceptedOf h) = explained h u in
-      let size : length (l .list) ≤ 1024 = l .size in
-      let t : TellsOf (l .list) (after h) = history h u .from (l .list) (l .size) (l .explains) in
-      let small : k ≤ 63 =
-      ⊎-elim (λ (lt : k < 64). omega arith)
-      (λ (ge : 64 ≤ k). absurd (true-not-false (heard-complete (after h) (l .list) t (λ i il. lowest-below (after h .marks) 64 i (omega arith))) f)) (lt-or-le k 64) in (
-        λ x. known h u .marked k x .1 (rw q (lowest-at (after h .marks) 64 (omega arith))),
+      let low : lowest (after h .marks) 64 < 64 = incomplete-low (after h) f in (
+        λ x. known h u .marked k x .1 (rw q (lowest-at (after h .marks) 64 low)),
         λ j jl. known h u .heard j (lowest-below (after h .marks) 64 j (omega arith)),
-        small,
+        omega arith,
       )
 
-  -- and asked for its bytes, it is refused 13 with that index
-  pub incomplete-refused : (k : ℕ) → standingOf (after h) ≡ accepted (missing k) → listOf (after h) ≡ refused 13 (k ∷ [])
-  incomplete-refused k e = rw e
+  -- "It holds up to 64 parts with their lengths": the part of each accepted answer
+  pub part-held : (a : Call) → Among a (acceptedOf h) → (getD (after h .marks) (a .index) 0 ≡ suc (length (a .content))) × ((j : ℕ) → j < length (a .content) → getD (after h .bytes) (partLength * a .index + j) 0 ≡ getD (a .content) j 0)
+  part-held a x =
+      let l : Explained controllers (acceptedOf h) = explained h u in
+      let t : TellsOf (l .source) (after h) = history h u .from (l .source) (l .suits .size) (l .explains) in
+      let e : answerOf (l .source) (a .index) ≡ a .content = among-explains (l .source) a (acceptedOf h) x (l .explains) in
+      let k = known h u .marked (a .index) (among-heard a (acceptedOf h) x) in
+      let n : length (a .content) ≡ min 16 (length (l .source) - 16 * a .index) = sym (ap length e) ∙ answer-length (l .source) (a .index) in (
+        omega (arith, t .marks (a .index) (k .0) (k .1)),
+        λ j jl.
+            let q : (16 * a .index + j) / 16 ≡ a .index = omega arith in
+            t .bytes (16 * a .index + j) (omega arith) (λ z. k .1 (rw q at z)) ∙ sym (answer-at (l .source) (a .index) j (omega arith)) ∙ ap (λ (s : List ℕ). getD s j 0) e,
+      )
 
-  -- "bytes not heard are zero"
-  pub unheard-zero : (k : ℕ) → k < capacity → (HeardIn (k / partLength) (acceptedOf h) → ⊥) → getD (after h .bytes) k 0 ≡ 0
-  unheard-zero k kl n =
+  -- "bytes not heard are zero": each that no accepted answer has, behind a short part too
+  pub rest-zero : (k : ℕ) → k < capacity → ((a : Call) → Among a (acceptedOf h) → partLength * a .index ≤ k → k < partLength * a .index + length (a .content) → ⊥) → getD (after h .bytes) k 0 ≡ 0
+  rest-zero k kl none =
       ⊎-elim (λ (z : getD (after h .marks) (k / 16) 0 ≡ 0). wf-zeros (after h) (history h u .wf) k kl (omega arith))
-      (λ (nz : getD (after h .marks) (k / 16) 0 ≡ 0 → ⊥). absurd (n (known h u .heard (k / 16) nz)))
+      (λ (nz : getD (after h .marks) (k / 16) 0 ≡ 0 → ⊥).
+      let (a, x, e) = heard-among (k / 16) (acceptedOf h) (known h u .heard (k / 16) nz) in
+      let m : getD (after h .marks) (k / 16) 0 ≡ suc (length (a .content)) = rw e at (part-held a x .0) in
+      ⊎-elim (λ (lt : k < 16 * a .index + length (a .content)). absurd (none a x (omega arith) lt))
+      (λ (ge : 16 * a .index + length (a .content) ≤ k). wf-zeros (after h) (history h u .wf) k kl (omega arith)) (lt-or-le k (16 * a .index + length (a .content))))
       (eq-or-ne (getD (after h .marks) (k / 16) 0) 0)
-
-  -- Of a list that explains what was accepted: with honest answers it is their list.
-  module _ (list : List ℕ) (s : length list ≤ capacity) (e : Explains list (acceptedOf h)) where
-    abbrev pub AllHeard : Type 0
-    AllHeard = (i : ℕ) → i ≤ lastOf (length list) → HeardIn i (acceptedOf h)
-
-    tells : TellsOf list (after h)
-    tells = history h u .from list s e
-
-    all-complete : AllHeard → isComplete (after h) ≡ true
-    all-complete all = heard-complete (after h) list tells (λ i il. known h u .marked i (all i il) .1)
-
-    -- "Complete exactly when every index up to min(63, n/16) was heard"
-    pub complete-exactly : ((n : ℕ) × (standingOf (after h) ≡ accepted (complete n))) ↔ AllHeard
-    complete-exactly = (
-      (λ (n, q) i il. known h u .heard i (complete-heard (after h) list tells (complete-or (after h) n (history h u .wf) q) i il)),
-      λ all. (leastTo (after h .marks) 64, standing-complete (after h) (history h u .wf) (all-complete all)),
-    )
-
-    -- "then its bytes are the list", and as many as it says
-    pub complete-list : AllHeard → (standingOf (after h) ≡ accepted (complete (length list))) × (listOf (after h) ≡ accepted list)
-    complete-list all =
-        let c : isComplete (after h) ≡ true = all-complete all in (
-          standing-complete (after h) (history h u .wf) c ∙ ap (λ (x : ℕ). accepted (complete x)) (complete-low (after h) list tells c),
-          list-complete (after h) (history h u .wf) c ∙ ap accepted (complete-bytes (after h) list tells (history h u .typed) c),
-        )
-
-    -- "Before that the lowest unheard index is named" (what it is: lowest-named)
-    pub missing-before : (AllHeard → ⊥) → (k : ℕ) × (standingOf (after h) ≡ accepted (missing k))
-    missing-before n = ⊎-elim (λ c. absurd (n (complete-exactly .0 c))) (λ m. m) standing-told
-
-  -- Of one more answer.
-  module _ (a : Call) (v : IsBytes (a .content)) where
-    -- "an answer of legal index and length is refused exactly when no list of at most 1,024 bytes explains it together with those accepted": the other way round first
-    pub accepted-exactly : a .index ≤ lastIndex → isAccepted (taking (after h) (a .index) (a .content)) ≡ true ↔ Explained (a ∷ acceptedOf h)
-    accepted-exactly il = ((λ y. accepted-explained h u a v y), λ x. explained-accepted h u a v (omega arith) x)
-
-    pub refused-exactly : a .index ≤ lastIndex → isAccepted (taking (after h) (a .index) (a .content)) ≡ false ↔ (Explained (a ∷ acceptedOf h) → ⊥)
-    refused-exactly il = (
-      (λ n x. true-not-false (accepted-exactly il .1 x) n),
-      λ none. ⊎-elim (λ (y : isAccepted (taking (after h) (a .index) (a .content)) ≡ true). absurd (none (accepted-exactly il .0 y)))
-          (λ (n : isAccepted (taking (after h) (a .index) (a .content)) ≡ false). n) (bool-cases (isAccepted (taking (after h) (a .index) (a .content)))),
-    )
-
-    -- and then by 12
-    pub refused-by-12 : a .index ≤ lastIndex → length (a .content) ≤ partLength → isAccepted (taking (after h) (a .index) (a .content)) ≡ false → taking (after h) (a .index) (a .content) ≡ refused 12 []
-    refused-by-12 il dl n = go (taking (after h) (a .index) (a .content)) (view (after h) (a .index) (a .content) (history h u .wf)) n
-      where
-        go : (r : Outcome Collector) → StepView (after h) (a .index) (a .content) r → isAccepted r ≡ false → r ≡ refused 12 []
-        go r (bad-index k) n = absurd (omega arith)
-        go r (too-long j k) n = absurd (omega arith)
-        go r (repeats j k nz q) n = absurd (true-not-false refl n)
-        go r (differs j k nz q) n = refl
-        go r (joins j k z q) n = absurd (true-not-false refl n)
-        go r (clashes j k z q) n = refl
-
-    -- a refusal changes nothing
-    pub refusal-keeps : isAccepted (taking (after h) (a .index) (a .content)) ≡ false → after (a ∷ h) ≡ after h
-    unfolding after
-    refusal-keeps n = go (taking (after h) (a .index) (a .content)) n
-      where
-        go : (r : Outcome Collector) → isAccepted r ≡ false → recordOf (after h) r ≡ after h
-        go (accepted c) n = absurd (true-not-false refl n)
-        go (refused k carried) n = refl
 
   -- "An equal repeat is accepted and changes nothing"
   pub repeat-same : (a : Call) → Among a (acceptedOf h) → taking (after h) (a .index) (a .content) ≡ accepted (after h)
   repeat-same a x =
-      let l : Explained (acceptedOf h) = explained h u in
-      let e : answerOf (l .list) (a .index) ≡ a .content = among-explains (l .list) a (acceptedOf h) x (l .explains) in
-      repeat-accepted h u a (omega (arith, ap length e, answer-length (l .list) (a .index))) x
+      let l : Explained controllers (acceptedOf h) = explained h u in
+      let e : answerOf (l .source) (a .index) ≡ a .content = among-explains (l .source) a (acceptedOf h) x (l .explains) in
+      let k = known h u .marked (a .index) (among-heard a (acceptedOf h) x) in
+      repeat-by (after h) (a .index) (a .content) (l .source) (history h u .from (l .source) (l .suits .size) (l .explains)) e (k .0)
+      (omega (arith, ap length e, answer-length (l .source) (a .index))) (k .1) _ (view (after h) (a .index) (a .content) (history h u .wf))
 
--- The same of honest answers, all of which are accepted: what was heard is what was answered.
-module _ (list : List ℕ) (b : IsBytes list) (s : length list ≤ capacity) (h : List Call) (e : Honest list h) where
-  explains-accepted : Explains list (acceptedOf h)
-  explains-accepted = subst (Explains list) (sym (honest-never-refused list b s h e)) (honest-explains list b s h e)
+  -- One more answer.
+  module _ (a : Call) (v : Bytes (a .content)) where
+    exactly : isAccepted (taking (after h) (a .index) (a .content)) ≡ true ↔ Explained controllers (a ∷ acceptedOf h)
+    exactly = (accepted-explained h u a v, explained-accepted h u a v)
 
-  pub honest-complete-exactly : ((n : ℕ) × (standingOf (after h) ≡ accepted (complete n))) ↔ ((i : ℕ) → i ≤ lastOf (length list) → HeardIn i h)
-  honest-complete-exactly =
-      subst (λ (heard : List Call). ((n : ℕ) × (standingOf (after h) ≡ accepted (complete n))) ↔ ((i : ℕ) → i ≤ lastOf (length list) → HeardIn i heard))
-      (honest-never-refused list b s h e) (complete-exactly h (honest-calls list b h e) list s explains-accepted)
+    refused-as : (r : Outcome Collector) → StepView (after h) (a .index) (a .content) r → r ≡ refused 12 [] ↔ ((a .index ≤ lastIndex) × (length (a .content) ≤ partLength) × (isAccepted r ≡ false))
+    refused-as r (bad-index k) = ((λ e. let z : _≡_ {A = ℕ} 7 12 = cc in absurd (omega arith)), λ (i, l, n). absurd (omega arith))
+    refused-as r (too-long j k) = ((λ e. let z : _≡_ {A = ℕ} 2 12 = cc in absurd (omega arith)), λ (i, l, n). absurd (omega arith))
+    refused-as r (repeats j k nz q) = ((λ e. absurd (true-not-false refl (ap isAccepted e))), λ (i, l, n). absurd (true-not-false refl n))
+    refused-as r (differs j k nz q) = ((λ e. (omega arith, k, refl)), λ (i, l, n). refl)
+    refused-as r (joins j k z q) = ((λ e. absurd (true-not-false refl (ap isAccepted e))), λ (i, l, n). absurd (true-not-false refl n))
+    refused-as r (clashes j k z q) = ((λ e. (omega arith, k, refl)), λ (i, l, n). refl)
 
-  pub honest-list : ((i : ℕ) → i ≤ lastOf (length list) → HeardIn i h) → listOf (after h) ≡ accepted list
-  honest-list all =
-      complete-list h (honest-calls list b h e) list s explains-accepted
-      (λ i il. subst (HeardIn i) (sym (honest-never-refused list b s h e)) (all i il)) .1
+    -- 12: "no list of at most 1,024 bytes explains this answer and those accepted", and its index and length are legal
+    pub twelve-exactly : taking (after h) (a .index) (a .content) ≡ refused 12 [] ↔ ((a .index ≤ lastIndex) × (length (a .content) ≤ partLength) × (Explained controllers (a ∷ acceptedOf h) → ⊥))
+    twelve-exactly =
+        let (to, from) = refused-as (taking (after h) (a .index) (a .content)) (view (after h) (a .index) (a .content) (history h u .wf)) in
+        let (none, unexplained) = not-exactly _ exactly in
+        ((λ e. let (i, l, n) = to e in (i, l, none n)), λ (i, l, n). from (i, l, unexplained n))
 
--- "Well-formed, the test that the code runs, is exactly reachable"
-module _ (c : Collector) (t : Held c) where
+-- Of one controller's answers.
+module _ (list : List ℕ) (s : IsList list) where
+  legal : (i : ℕ) (d : List ℕ) → controllers .Answers list i d → Bytes d × (i ≤ lastIndex) × (length d ≤ partLength)
+  legal i d (il, q) = (subst Bytes q (bytes-take 16 (drop (16 * i) list) (bytes-drop (16 * i) list (s .bytes))), il, omega (arith, ap length q, answer-length list i))
+
+  module _ (h : List Call) (e : Explains controllers list h) where
+    u : AllBytes h
+    u = explained-bytes collecting controllers list s legal (λ g w a v il l x. explained-accepted g w a v x) h e
+
+    all : acceptedOf h ≡ h
+    all = none-refused collecting controllers list s legal (λ g w a v il l x. explained-accepted g w a v x) h e
+
+    tells : TellsOf list (after h)
+    tells = history h u .from list (s .size) (subst (Explains controllers list) (sym all) e)
+
+    complete-all : isComplete (after h) ≡ true → AllHeard controllers list h
+    complete-all c i il = subst (HeardIn i) all (known h u .heard i (complete-heard (after h) list tells c i il))
+
+    whole : AllHeard controllers list h → (standingOf (after h) ≡ accepted (complete (length list))) × (listOf (after h) ≡ accepted list)
+    whole y =
+        let c : isComplete (after h) ≡ true = heard-complete (after h) list tells (λ i il. known h u .marked i (subst (HeardIn i) (sym all) (y i il)) .1) in (
+          standing-complete (after h) (history h u .wf) c ∙ ap (λ (x : ℕ). accepted (complete x)) (complete-low (after h) list tells c),
+          list-complete (after h) (history h u .wf) c ∙ ap accepted (complete-bytes (after h) list tells (history h u .typed) c),
+        )
+
+    lowest-unheard : (AllHeard controllers list h → ⊥) → (i : ℕ) × (standingOf (after h) ≡ accepted (missing i)) × (HeardIn i h → ⊥) × ((j : ℕ) → j < i → HeardIn j h)
+    lowest-unheard n =
+        ⊎-elim (λ (c : isComplete (after h) ≡ true). absurd (n (complete-all c)))
+        (λ (f : isComplete (after h) ≡ false).
+        let q = standing-missing (after h) (history h u .wf) f in
+        let (un, under, small) = lowest-named h u (lowest (after h .marks) 64) q in
+        (lowest (after h .marks) 64, q, (λ y. un (subst (HeardIn _) (sym all) y)), λ j jl. subst (HeardIn j) all (under j jl)))
+        (bool-cases (isComplete (after h)))
+
+pub demand-3 : Demand3 collecting controllers
+demand-3 =
+    record {
+      answers = λ list s i il. (answerOf list i, (il, refl), omega (arith, answer-length list i));
+      none-refused = all;
+      complete-exactly = λ list s h e. ((λ (n, q). complete-all list s h e (complete-or (after h) n (history h (u list s h e) .wf) q)), λ y. (length list, whole list s h e y .0));
+      its-list = whole;
+      names-lowest = lowest-unheard;
+      asking-ends = λ list s. asking-ends collecting controllers list (whole list s) (lowest-unheard list s);
+      refused-exactly = λ h w a v il l. not-exactly _ (exactly h w a v);
+      accepted-exactly = λ h w a v il l. exactly h w a v;
+    }
+
+-- The test that the code runs passes exactly for what calls make from a fresh one.
+module _ (c : Collector) (t : Typed c) where
   pub well-formed-exactly : wellFormed c ≡ true ↔ Reachable c
   well-formed-exactly = (wf-reachable c t, reachable-wf c)
 
   unreachable : (Reachable c → ⊥) → wellFormed c ≡ false
-  unreachable n = ⊎-elim (λ (w : wellFormed c ≡ true). absurd (n (wf-reachable c t w))) (λ (w : wellFormed c ≡ false). w) (bool-cases (wellFormed c))
+  unreachable = not-exactly (wellFormed c) well-formed-exactly .1
 
-  -- so each entry refuses 9 exactly a collector that no calls make from a fresh one
+  -- so each entry gives 9 exactly to "a collector that no calls make from a fresh one"
   pub answer-refuses-9 : (i : ℕ) (d : List ℕ) → taking c i d ≡ refused 9 [] ↔ (Reachable c → ⊥)
   answer-refuses-9 i d = ((λ e r. never (taking c i d) (view c i d (reachable-wf c r)) e), λ n. taking-9 c i d (unreachable n))
     where
-      apart : {x : Outcome Collector} → isAccepted x ≡ true → x ≡ refused 9 [] → ⊥
-      apart y e = true-not-false y (ap isAccepted e)
-
-      number : Outcome Collector → ℕ
-      number (accepted x) = 0
-      number (refused k carried) = k
-
       never : (r : Outcome Collector) → StepView c i d r → r ≡ refused 9 [] → ⊥
-      never r (bad-index k) e = let z : _≡_ {A = ℕ} 7 9 = ap number e in omega arith
-      never r (too-long j k) e = let z : _≡_ {A = ℕ} 2 9 = ap number e in omega arith
-      never r (repeats j k nz q) e = apart refl e
-      never r (differs j k nz q) e = let z : _≡_ {A = ℕ} 12 9 = ap number e in omega arith
-      never r (joins j k z q) e = apart refl e
-      never r (clashes j k z q) e = let z : _≡_ {A = ℕ} 12 9 = ap number e in omega arith
+      never r (bad-index k) e = let z : _≡_ {A = ℕ} 7 9 = cc in omega arith
+      never r (too-long j k) e = let z : _≡_ {A = ℕ} 2 9 = cc in omega arith
+      never r (repeats j k nz q) e = true-not-false refl (ap isAccepted e)
+      never r (differs j k nz q) e = let z : _≡_ {A = ℕ} 12 9 = cc in omega arith
+      never r (joins j k z q) e = true-not-false refl (ap isAccepted e)
+      never r (clashes j k z q) e = let z : _≡_ {A = ℕ} 12 9 = cc in omega arith
 
   pub status-refuses-9 : standingOf c ≡ refused 9 [] ↔ (Reachable c → ⊥)
-  status-refuses-9 = ((λ e r. go (isComplete c) (rw (reachable-wf c r) at e)), λ n. standing-9 c (unreachable n))
-    where
-      go : (y : Bool) → accepted (if y then complete (leastTo (c .marks) 64) else missing (lowest (c .marks) 64)) ≡ refused 9 [] → ⊥
-      go y e = true-not-false refl (ap isAccepted e)
+  status-refuses-9 = ((λ e r. true-not-false refl (ap isAccepted (rw (reachable-wf c r) at e))), λ n. standing-9 c (unreachable n))
 
   pub list-refuses-9 : listOf c ≡ refused 9 [] ↔ (Reachable c → ⊥)
   list-refuses-9 = ((λ e r. go r (bool-cases (isComplete c)) e), λ n. list-9 c (unreachable n))
     where
-      number : Outcome (List ℕ) → ℕ
-      number (accepted x) = 0
-      number (refused k carried) = k
-
       go : Reachable c → (isComplete c ≡ true) ⊎ (isComplete c ≡ false) → listOf c ≡ refused 9 [] → ⊥
-      go r (inl y) e = let z : _≡_ {A = ℕ} 0 9 = ap number (sym (list-complete c (reachable-wf c r) y) ∙ e) in omega arith
-      go r (inr n) e = let z : _≡_ {A = ℕ} 13 9 = ap number (sym (list-missing c (reachable-wf c r) n) ∙ e) in omega arith
+      go r (inl y) e = true-not-false (ap isAccepted (list-complete c (reachable-wf c r) y)) (ap isAccepted e)
+      go r (inr n) e = let z : _≡_ {A = ℕ} 13 9 = cc (list-missing c (reachable-wf c r) n) in omega arith
 
--- what calls make, the machine can hold
-pub reachable-held : (c : Collector) → Reachable c → Held c
-reachable-held c r = subst Held (r .made) (history (r .calls) (r .bytes) .typed)
+-- what calls make is of the machine
+pub reachable-typed : (c : Collector) → Reachable c → Typed c
+reachable-typed c r = subst Typed (r .made) (history (r .calls) (r .bytes) .typed)

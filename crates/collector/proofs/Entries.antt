@@ -20,8 +20,8 @@ use Rattle.collector.specs.declared.Collector.{Collector}
 use Rattle.collector.specs.declared.Judgement.{Judgement}
 use Rattle.collector.specs.declared.Judgement.the-variants.{Store, Keep, Refuse}
 use Rattle.collector.specs.declared.shape.Shape.{Shape}
-use Rattle.collector.specs.Collector.{complete, missing, marksFit, bytesFit, wellFormed, standsAt, holds, put, joining, taking, isComplete, standingOf, listOf, leastTo, lowest}
-use Rattle.collector.specs.Shape.{shapeOf, fits, completeShape, ShapeFits, shapeWith, held, Judged}
+use Rattle.collector.specs.Collector.{complete, missing, marksFit, bytesFit, wellFormed, standsAt, hasPart, put, joining, taking, isComplete, standingOf, listOf, leastTo, lowest, held}
+use Rattle.collector.specs.Shape.{shapeOf, fits, completeShape, ShapeFits, shapeWith, Judged}
 use Rattle.collector.proofs.Basic.{both-left, bool-cases, low-small}
 use Rattle.collector.proofs.Step.{wf-marks}
 use Rattle.collector.proofs.shape.Laws.{marks-by-shape, marks-with, put-test, lowest-free, free-small, fit-of, complete-by-shape}
@@ -52,19 +52,19 @@ module _ (c : Collector) (i : ℕ) (d : List ℕ) where
     clashes : getD (c .marks) i 0 ≡ 0 → wellFormed (put c i d) ≡ false → taking c i d ≡ refused 12 []
     clashes z e = taking-on ∙ rw (eq-eqb (getD (c .marks) i 0) 0 z, e)
 
-    repeats : (getD (c .marks) i 0 ≡ 0 → ⊥) → holds c i d ≡ true → taking c i d ≡ accepted c
+    repeats : (getD (c .marks) i 0 ≡ 0 → ⊥) → hasPart c i d ≡ true → taking c i d ≡ accepted c
     repeats z e = taking-on ∙ rw (ne-eqb (getD (c .marks) i 0) 0 z, e)
 
-    differs : (getD (c .marks) i 0 ≡ 0 → ⊥) → holds c i d ≡ false → taking c i d ≡ refused 12 []
+    differs : (getD (c .marks) i 0 ≡ 0 → ⊥) → hasPart c i d ≡ false → taking c i d ≡ refused 12 []
     differs z e = taking-on ∙ rw (ne-eqb (getD (c .marks) i 0) 0 z, e)
 
-  holds-not : (getD (c .marks) i 0 ≡ suc (length d) → ⊥) → holds c i d ≡ false
-  unfolding holds
-  holds-not ne = rw (ne-eqb (getD (c .marks) i 0) (suc (length d)) ne)
+  has-not : (getD (c .marks) i 0 ≡ suc (length d) → ⊥) → hasPart c i d ≡ false
+  unfolding hasPart
+  has-not ne = rw (ne-eqb (getD (c .marks) i 0) (suc (length d)) ne)
 
-  holds-is : getD (c .marks) i 0 ≡ suc (length d) → holds c i d ≡ standsAt (c .bytes) (16 * i) d
-  unfolding holds
-  holds-is e = rw (eq-eqb (getD (c .marks) i 0) (suc (length d)) e)
+  has-is : getD (c .marks) i 0 ≡ suc (length d) → hasPart c i d ≡ standsAt (c .bytes) (16 * i) d
+  unfolding hasPart
+  has-is e = rw (eq-eqb (getD (c .marks) i 0) (suc (length d)) e)
 
 -- the same by the shape of the marks, as the code finds it
 
@@ -122,17 +122,17 @@ module _ (bs ms : List ℕ) (s : Shape) (es : s ≡ shapeOf ms) where
           heard q = nz (em ∙ q)
 
           pub says-other : (m ≡ n → ⊥) → taking (held bs ms) i d ≡ refused 12 []
-          says-other ne = differs (held bs ms) i d w h k heard (holds-not (held bs ms) i d (λ q. ne (em ∙ q ∙ sym n-is)))
+          says-other ne = differs (held bs ms) i d w h k heard (has-not (held bs ms) i d (λ q. ne (em ∙ q ∙ sym n-is)))
 
           module _ (eq : m ≡ n) where
-            holds-by : (at : ℕ) → at ≡ 16 * i → holds (held bs ms) i d ≡ standsAt bs at d
-            holds-by at e = holds-is (held bs ms) i d (sym em ∙ eq ∙ n-is) ∙ ap (λ (x : ℕ). standsAt bs x d) (sym e)
+            has-by : (at : ℕ) → at ≡ 16 * i → hasPart (held bs ms) i d ≡ standsAt bs at d
+            has-by at e = has-is (held bs ms) i d (sym em ∙ eq ∙ n-is) ∙ ap (λ (x : ℕ). standsAt bs x d) (sym e)
 
             pub says-keep : (at : ℕ) → at ≡ 16 * i → standsAt bs at d ≡ true → taking (held bs ms) i d ≡ accepted (held bs ms)
-            says-keep at e f = repeats (held bs ms) i d w h k heard (holds-by at e ∙ f)
+            says-keep at e f = repeats (held bs ms) i d w h k heard (has-by at e ∙ f)
 
             pub says-differs : (at : ℕ) → at ≡ 16 * i → standsAt bs at d ≡ false → taking (held bs ms) i d ≡ refused 12 []
-            says-differs at e f = differs (held bs ms) i d w h k heard (holds-by at e ∙ f)
+            says-differs at e f = differs (held bs ms) i d w h k heard (has-by at e ∙ f)
 
 -- what a judgement leaves
 

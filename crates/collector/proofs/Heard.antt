@@ -10,13 +10,15 @@ use Rattle.collector.specs.declared.Collector.{Collector}
 use Rattle.base.specs.Choice.{if_then_else_}
 use Rattle.base.specs.Outcome.{Outcome, accepted, refused, isAccepted}
 use Rattle.base.specs.Verdict.{recordOf}
+use Rattle.base.proofs.little.Laws.{zero-at}
 use Rattle.collector.specs.Collector.{answerOf, wellFormed, put, taking}
-use Rattle.collector.specs.Histories.{Call, Calls, Explains, Explained, Held, after, acceptedOf, HeardIn, Among}
-use Rattle.collector.proofs.Basic.{eq-or-ne}
+use Rattle.collector.specs.Demand.{Call, AllBytes, HeardIn, Explains, controllers, made, taken}
+use Rattle.collector.specs.Histories.{Typed, after, acceptedOf, Among}
+use Rattle.collector.proofs.Basic.{true-not-false, eq-or-ne}
 use Rattle.collector.proofs.Parts.{mark-here, mark-other}
-use Rattle.collector.proofs.Step.{TellsOf, true-not-false, replicate-zero, answer-same, StepView, view}
+use Rattle.collector.proofs.Step.{TellsOf, answer-same, StepView, view}
 use Rattle.collector.proofs.Step.StepView.{bad-index, too-long, repeats, differs, joins, clashes}
-use Rattle.collector.proofs.History.{History, history, explained}
+use Rattle.collector.proofs.History.{History, history}
 
 abbrev pub Marked : Collector → ℕ → Type 0
 Marked c j = getD (c .marks) j 0 ≡ 0 → ⊥
@@ -26,7 +28,7 @@ pub record Hears (c : Collector) (i : ℕ) (r : Outcome Collector) : Type 0 wher
   pub here : isAccepted r ≡ true → (i < 64) × Marked (recordOf c r) i
   pub only : (j : ℕ) → Marked (recordOf c r) j → Marked c j ⊎ ((i ≡ j) × (isAccepted r ≡ true))
 
-module _ (c : Collector) (i : ℕ) (d : List ℕ) (t : Held c) (w : wellFormed c ≡ true) where
+module _ (c : Collector) (i : ℕ) (d : List ℕ) (t : Typed c) (w : wellFormed c ≡ true) where
   deaf : (n : ℕ) → Hears c i (refused n [])
   deaf n = record { stays = λ j m. m; here = λ e. absurd (true-not-false e refl); only = λ j m. inl m }
 
@@ -53,9 +55,9 @@ pub record Known (h : List Call) : Type 0 where
   pub marked : (j : ℕ) → HeardIn j (acceptedOf h) → (j < 64) × Marked (after h) j
   pub heard : (j : ℕ) → Marked (after h) j → HeardIn j (acceptedOf h)
 
-pub known : (h : List Call) → Calls h → Known h
-unfolding after acceptedOf
-known [] u = record { marked = λ j x. absurd x; heard = λ j m. absurd (m (replicate-zero 64 j)) }
+pub known : (h : List Call) → AllBytes h → Known h
+unfolding made taken
+known [] u = record { marked = λ j x. absurd x; heard = λ j m. absurd (m (zero-at 64 j)) }
 known (a ∷ h) u =
     let m : History h = history h (u .1) in
     let k : Known h = known h (u .1) in
@@ -78,30 +80,28 @@ known (a ∷ h) u =
     go-heard r f j false e (inl m) = f j m
     go-heard r f j false e (inr q) = absurd (true-not-false (q .1) e)
 
--- an equal repeat is accepted and changes nothing
+-- a call among others
 
 pub among-heard : (a : Call) (h : List Call) → Among a h → HeardIn (a .index) h
 among-heard a [] x = x
 among-heard a (b ∷ h) (inl e) = inl (ap (λ (x : Call). x .index) e)
 among-heard a (b ∷ h) (inr x) = inr (among-heard a h x)
 
-pub among-explains : (l : List ℕ) (a : Call) (h : List Call) → Among a h → Explains l h → answerOf l (a .index) ≡ a .content
+pub heard-among : (i : ℕ) (h : List Call) → HeardIn i h → (a : Call) × Among a h × (a .index ≡ i)
+heard-among i [] x = absurd x
+heard-among i (b ∷ h) (inl e) = (b, inl refl, e)
+heard-among i (b ∷ h) (inr x) = let (a, y, e) = heard-among i h x in (a, inr y, e)
+
+pub among-explains : (l : List ℕ) (a : Call) (h : List Call) → Among a h → Explains controllers l h → answerOf l (a .index) ≡ a .content
 among-explains l a [] x e = absurd x
-among-explains l a (b ∷ h) (inl q) e = subst (λ (x : Call). answerOf l (x .index) ≡ x .content) q (e .0)
+among-explains l a (b ∷ h) (inl q) e = subst (λ (x : Call). answerOf l (x .index) ≡ x .content) q (e .0 .1)
 among-explains l a (b ∷ h) (inr x) e = among-explains l a h x (e .1)
 
-repeat-by : (c : Collector) (i : ℕ) (d l : List ℕ) → TellsOf l c → answerOf l i ≡ d → i < 64 → length d ≤ 16 → Marked c i → (r : Outcome Collector) → StepView c i d r → r ≡ accepted c
+-- an equal repeat is accepted and changes nothing
+pub repeat-by : (c : Collector) (i : ℕ) (d l : List ℕ) → TellsOf l c → answerOf l i ≡ d → i < 64 → length d ≤ 16 → Marked c i → (r : Outcome Collector) → StepView c i d r → r ≡ accepted c
 repeat-by c i d l t a il dl m r (bad-index h) = absurd (omega arith)
 repeat-by c i d l t a il dl m r (too-long j h) = absurd (omega arith)
 repeat-by c i d l t a il dl m r (repeats j k nz e) = refl
 repeat-by c i d l t a il dl m r (differs j k nz e) = absurd (true-not-false (answer-same c i d l t il m a) e)
 repeat-by c i d l t a il dl m r (joins j k z e) = absurd (m z)
 repeat-by c i d l t a il dl m r (clashes j k z e) = absurd (m z)
-
-pub repeat-accepted : (h : List Call) → Calls h → (a : Call) → length (a .content) ≤ 16 → Among a (acceptedOf h) → taking (after h) (a .index) (a .content) ≡ accepted (after h)
-repeat-accepted h u a dl x =
-    let m : History h = history h u in
-    let k : (a .index < 64) × Marked (after h) (a .index) = known h u .marked (a .index) (among-heard a (acceptedOf h) x) in
-    let l : Explained (acceptedOf h) = explained h u in
-    repeat-by (after h) (a .index) (a .content) (l .list) (m .from (l .list) (l .size) (l .explains))
-    (among-explains (l .list) a (acceptedOf h) x (l .explains)) (k .0) dl (k .1) _ (view (after h) (a .index) (a .content) (m .wf))

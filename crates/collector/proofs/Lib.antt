@@ -1,10 +1,10 @@
-pub mod Asking
 pub mod Basic
 pub mod Complete
 pub mod Demand
 pub mod Entries
 pub mod Heard
 pub mod History
+pub mod Keeping
 pub mod Parts
 pub mod Reach
 pub mod Said

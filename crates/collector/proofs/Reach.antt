@@ -10,15 +10,16 @@ use lib.Seq.{paste, length-paste, getD-take, getD-drop, getD-set-same, getD-set-
 use Rattle.collector.specs.declared.Collector.{Collector}
 use Rattle.base.specs.Outcome.{Outcome, accepted}
 use Rattle.base.specs.Verdict.{recordOf}
+use Rattle.base.proofs.little.Laws.{bytes-drop, bytes-paste, bytes-take, bytes-zeros, zero-at}
 use Rattle.collector.specs.Collector.{fresh, leastTo, wellFormed, put, taking}
-use Rattle.collector.specs.Histories.{Held, after, Reachable}
-use Rattle.collector.proofs.Basic.{lt-or-le, eq-or-ne, Zeros, tells-low}
+use Rattle.collector.specs.Demand.{made}
+use Rattle.collector.specs.Histories.{Typed, Reachable}
+use Rattle.collector.proofs.Basic.{true-not-false, lt-or-le, eq-or-ne, Zeros, tells-low}
 use Rattle.collector.proofs.Parts.{byte-in, byte-out, byte-other}
-use Rattle.collector.proofs.Step.{TellsOf, true-not-false, replicate-zero, wf-marks, wf-zeros, wf-of, StepView, view}
+use Rattle.collector.proofs.Step.{TellsOf, wf-marks, wf-zeros, wf-of, StepView, view}
 use Rattle.collector.proofs.Step.StepView.{bad-index, too-long, repeats, differs, joins, clashes}
 use Rattle.collector.proofs.History.{history}
 use Rattle.collector.proofs.Heard.{Marked}
-use Rattle.collector.proofs.Asking.{take-bytes, drop-bytes}
 
 collector-eq : (c e : Collector) → c .bytes ≡ e .bytes → c .marks ≡ e .marks → c ≡ e
 collector-eq c e p q = λ i. record { bytes = p i; marks = q i }
@@ -32,7 +33,7 @@ blank-length = length-replicate {A = ℕ} 16 0
 
 blank-at : (k : ℕ) → getD blank k 0 ≡ 0
 unfolding blank
-blank-at k = replicate-zero 16 k
+blank-at k = zero-at 16 k
 
 abbrev erase : Collector → ℕ → Collector
 erase c n = record { bytes = paste (c .bytes) (16 * n) blank (length blank); marks = set (c .marks) n 0 }
@@ -40,7 +41,7 @@ erase c n = record { bytes = paste (c .bytes) (16 * n) blank (length blank); mar
 abbrev partAt : Collector → ℕ → List ℕ
 partAt c n = take (getD (c .marks) n 0 - 1) (drop (16 * n) (c .bytes))
 
-module _ (c : Collector) (n : ℕ) (t : Held c) (nl : n < 64) where
+module _ (c : Collector) (n : ℕ) (t : Typed c) (nl : n < 64) where
   blank-fits : length blank ≤ 16
   blank-fits = omega (arith, blank-length)
 
@@ -56,14 +57,15 @@ module _ (c : Collector) (n : ℕ) (t : Held c) (nl : n < 64) where
   others : (j : ℕ) → (j ≡ n → ⊥) → getD (erase c n .marks) j 0 ≡ getD (c .marks) j 0
   others j e = getD-set-other (c .marks) n j 0 0 e
 
-  erase-typed : Held (erase c n)
+  erase-typed : Typed (erase c n)
+  unfolding blank
   erase-typed =
       let e : length (c .bytes) ≡ 1024 = t .bytes in
       let f : length blank ≡ 16 = blank-length in
       record {
         bytes = length-paste (c .bytes) (16 * n) blank (length blank) (omega arith) (omega arith) ∙ t .bytes;
         marks = length-set (c .marks) n 0 ∙ t .marks;
-        small = λ k. ⊎-elim (λ (q : k / 16 ≡ n). omega (arith, gone k q)) (λ (q : k / 16 ≡ n → ⊥). omega (arith, left k q, t .small k)) (eq-or-ne (k / 16) n);
+        small = bytes-paste (c .bytes) (16 * n) blank (length blank) (t .small) (bytes-zeros 16);
       }
 
   erase-zeros : Zeros (c .bytes) (c .marks) → Zeros (erase c n .bytes) (erase c n .marks)
@@ -100,7 +102,7 @@ module _ (c : Collector) (n : ℕ) (t : Held c) (nl : n < 64) where
     back : put (erase c n) n (partAt c n) ≡ c
     back = collector-eq (put (erase c n) n (partAt c n)) c bytes marks
       where
-        y : Held (erase c n)
+        y : Typed (erase c n)
         y = erase-typed
 
         e : length (erase c n .bytes) ≡ 1024
@@ -143,7 +145,7 @@ joins-by c i d il dl z w r (differs j k nz e) = absurd (nz z)
 joins-by c i d il dl z w r (joins j k y e) = refl
 joins-by c i d il dl z w r (clashes j k y e) = absurd (true-not-false w e)
 
-module _ (c : Collector) (n : ℕ) (t : Held c) (nl : n < 64) (w : wellFormed c ≡ true) (m : Marked c n) where
+module _ (c : Collector) (n : ℕ) (t : Typed c) (nl : n < 64) (w : wellFormed c ≡ true) (m : Marked c n) where
   erase-wf : wellFormed (erase c n) ≡ true
   erase-wf =
       wf-of (erase c n) (take (leastTo (c .marks) 64) (c .bytes))
@@ -157,18 +159,18 @@ module _ (c : Collector) (n : ℕ) (t : Held c) (nl : n < 64) (w : wellFormed c 
       ∙ ap accepted (back c n t nl w m)
 
   again-reached : Reachable (erase c n) → Reachable c
-  unfolding after
+  unfolding made
   again-reached r =
       record {
         calls = record { index = n; content = partAt c n } ∷ r .calls;
-        bytes = (take-bytes (getD (c .marks) n 0 - 1) (drop (16 * n) (c .bytes)) (drop-bytes (16 * n) (c .bytes) (t .small)), r .bytes);
+        bytes = (bytes-take (getD (c .marks) n 0 - 1) (drop (16 * n) (c .bytes)) (bytes-drop (16 * n) (c .bytes) (t .small)), r .bytes);
         made =
             ap (λ (x : Collector). recordOf x (taking x n (partAt c n))) (r .made)
             ∙ ap (recordOf (erase c n)) again;
       }
 
-reach : (n : ℕ) → n ≤ 64 → (c : Collector) → Held c → wellFormed c ≡ true → ((j : ℕ) → n ≤ j → j < 64 → getD (c .marks) j 0 ≡ 0) → Reachable c
-unfolding after
+reach : (n : ℕ) → n ≤ 64 → (c : Collector) → Typed c → wellFormed c ≡ true → ((j : ℕ) → n ≤ j → j < 64 → getD (c .marks) j 0 ≡ 0) → Reachable c
+unfolding made
 reach zero h c t w f =
     record {
       calls = [];
@@ -177,11 +179,11 @@ reach zero h c t w f =
           (ext-getD 0 (replicate 1024 0) (c .bytes) (length-replicate {A = ℕ} 1024 0 ∙ sym (t .bytes))
           (λ k kl.
           let l : k < 1024 = omega (arith, length-replicate {A = ℕ} 1024 0) in
-          replicate-zero 1024 k ∙ sym (wf-zeros c w k l (omega (arith, f (k / 16) (omega arith) (omega arith))))))
+          zero-at 1024 k ∙ sym (wf-zeros c w k l (omega (arith, f (k / 16) (omega arith) (omega arith))))))
           (ext-getD 0 (replicate 64 0) (c .marks) (length-replicate {A = ℕ} 64 0 ∙ sym (t .marks))
           (λ k kl.
           let l : k < 64 = omega (arith, length-replicate {A = ℕ} 64 0) in
-          replicate-zero 64 k ∙ sym (f k (omega arith) l)));
+          zero-at 64 k ∙ sym (f k (omega arith) l)));
     }
 reach (suc n) h c t w f =
     ⊎-elim
@@ -195,7 +197,7 @@ reach (suc n) h c t w f =
 
 -- well-formed exactly when reachable
 
-pub wf-reachable : (c : Collector) → Held c → wellFormed c ≡ true → Reachable c
+pub wf-reachable : (c : Collector) → Typed c → wellFormed c ≡ true → Reachable c
 wf-reachable c t w = reach 64 (omega arith) c t w (λ j a b. absurd (omega arith))
 
 pub reachable-wf : (c : Collector) → Reachable c → wellFormed c ≡ true

@@ -1,27 +1,25 @@
 -- An answer to a well-formed collector, by cases.
-use Prim.Native.Nat.{ℕ, zero, suc, _+_, _-_, _*_, _/_, _≤_, _<_, min}
+use Prim.Native.Nat.{ℕ, suc, _+_, _-_, _*_, _/_, _≤_, _<_, min}
 use mathlib.Core.Path.{_≡_, refl, sym, ap, _∙_}
-use mathlib.Core.Logic.{⊎-elim}
 use mathlib.Core.List.{List, []}
 use mathlib.Core.Bool.{Bool, true, false}
 use native.Mathlib.Omega.{arith}
-use lib.ListN.{length, getD, replicate, length-set, length-replicate}
+use lib.ListN.{length, getD, length-set, length-replicate}
 use lib.Seq.{length-paste}
 use lib.Dec.{ltb, eqb}
 use borrow.Author.Tests.{eq-eqb, ltb-true, ltb-false, eqb-true, eqb-false}
 use Rattle.collector.specs.declared.Collector.{Collector}
 use Rattle.base.specs.Choice.{if_then_else_}
+use Rattle.base.specs.Field.{Bytes}
 use Rattle.base.specs.Outcome.{Outcome, accepted, refused}
-use Rattle.collector.specs.Collector.{allBelow, answerOf, fresh, leastTo, marksFit, bytesFit, wellFormed, standsAt, holds, put, taking, joining}
-use Rattle.collector.specs.Histories.{Held, IsBytes}
-use Rattle.collector.proofs.Basic.{both-left, both-right, both-true, all-of, all-at, lt-or-le, MarksOk, Zeros, Tells, marks-fact, fact-marks, bytes-fact, fact-bytes, low-fits}
-use Rattle.collector.proofs.Parts.{answer-length, answer-at, answer-is, paste-before, paste-after, byte-in}
+use Rattle.base.proofs.little.Laws.{bytes-paste, bytes-zeros, zero-at}
+use Rattle.collector.specs.Collector.{allBelow, answerOf, fresh, leastTo, marksFit, bytesFit, wellFormed, standsAt, hasPart, put, taking, joining}
+use Rattle.collector.specs.Histories.{Typed}
+use Rattle.collector.proofs.Basic.{both-left, both-right, both-true, all-of, all-at, true-not-false, MarksOk, Zeros, Tells, marks-fact, fact-marks, bytes-fact, fact-bytes, low-fits}
+use Rattle.collector.proofs.Parts.{answer-length, answer-at, answer-is}
 
 abbrev pub TellsOf : List ℕ → Collector → Type 0
 TellsOf l c = Tells l (c .bytes) (c .marks)
-
-pub true-not-false : {b : Bool} → b ≡ true → b ≡ false → ⊥
-true-not-false p q = let z : _≡_ {A = ℕ} 0 1 = cc in omega arith
 
 -- well-formed: the unheard bytes are zero, and some list explains
 
@@ -38,23 +36,18 @@ wf-of c l t z =
 
 -- a fresh collector
 
-pub replicate-zero : (n k : ℕ) → _≡_ {A = ℕ} (getD (replicate n 0) k 0) 0
-replicate-zero zero k = refl
-replicate-zero (suc n) zero = refl
-replicate-zero (suc n) (suc k) = replicate-zero n k
-
-pub fresh-typed : Held fresh
-fresh-typed = record { bytes = length-replicate {A = ℕ} 1024 0; marks = length-replicate {A = ℕ} 64 0; small = λ k. omega (arith, replicate-zero 1024 k) }
+pub fresh-typed : Typed fresh
+fresh-typed = record { bytes = length-replicate {A = ℕ} 1024 0; marks = length-replicate {A = ℕ} 64 0; small = bytes-zeros 1024 }
 
 pub fresh-zeros : Zeros (fresh .bytes) (fresh .marks)
-fresh-zeros k l h = replicate-zero 1024 k
+fresh-zeros k l h = zero-at 1024 k
 
 pub fresh-tells : (l : List ℕ) → length l ≤ 1024 → TellsOf l fresh
 fresh-tells l h =
     record {
       size = h;
-      marks = λ i il nz. absurd (nz (replicate-zero 64 i));
-      bytes = λ k kl nz. absurd (nz (replicate-zero 64 (k / 16)));
+      marks = λ i il nz. absurd (nz (zero-at 64 i));
+      bytes = λ k kl nz. absurd (nz (zero-at 64 (k / 16)));
     }
 
 pub fresh-wf : wellFormed fresh ≡ true
@@ -63,8 +56,8 @@ fresh-wf = wf-of fresh [] (fresh-tells [] (omega arith)) fresh-zeros
 -- a repeat
 
 module _ (c : Collector) (i : ℕ) (d l : List ℕ) (t : TellsOf l c) (il : i < 64) (nz : getD (c .marks) i 0 ≡ 0 → ⊥) where
-  pub same-answer : holds c i d ≡ true → answerOf l i ≡ d
-  unfolding holds standsAt
+  pub same-answer : hasPart c i d ≡ true → answerOf l i ≡ d
+  unfolding hasPart standsAt
   same-answer s =
       let q : getD (c .marks) i 0 ≡ suc (length d) = eqb-true _ _ (both-left _ (allBelow (length d) (λ j. eqb (getD (c .bytes) (16 * i + j) 0) (getD d j 0))) s) in
       let len : length d ≡ min 16 (length l - 16 * i) = omega (arith, t .marks i il nz) in
@@ -73,8 +66,8 @@ module _ (c : Collector) (i : ℕ) (d l : List ℕ) (t : TellsOf l c) (il : i < 
       sym (t .bytes (16 * i + j) (omega arith) (λ z. nz (rw e at z)))
       ∙ eqb-true _ _ (all-at _ (length d) (both-right (eqb (getD (c .marks) i 0) (suc (length d))) _ s) j jl))
 
-  pub answer-same : answerOf l i ≡ d → holds c i d ≡ true
-  unfolding holds standsAt
+  pub answer-same : answerOf l i ≡ d → hasPart c i d ≡ true
+  unfolding hasPart standsAt
   answer-same a =
       let len : length d ≡ min 16 (length l - 16 * i) = sym (ap length a) ∙ answer-length l i in
       let q : getD (c .marks) i 0 ≡ suc (length d) = omega (arith, t .marks i il nz) in
@@ -86,19 +79,13 @@ module _ (c : Collector) (i : ℕ) (d l : List ℕ) (t : TellsOf l c) (il : i < 
 
 -- a part put in
 
-pub put-typed : (c : Collector) (i : ℕ) (d : List ℕ) → Held c → IsBytes d → i < 64 → length d ≤ 16 → Held (put c i d)
+pub put-typed : (c : Collector) (i : ℕ) (d : List ℕ) → Typed c → Bytes d → i < 64 → length d ≤ 16 → Typed (put c i d)
 put-typed c i d t b il dl =
     let e : length (c .bytes) ≡ 1024 = t .bytes in
     record {
       bytes = length-paste (c .bytes) (16 * i) d (length d) (omega arith) (omega arith) ∙ e;
       marks = length-set (c .marks) i (suc (length d)) ∙ t .marks;
-      small = λ k.
-          ⊎-elim (λ lt. omega (arith, paste-before (c .bytes) d (16 * i) (omega arith) k lt, t .small k))
-          (λ ge.
-          ⊎-elim (λ lt. omega (arith, byte-in (c .bytes) (c .marks) d i e (t .marks) il dl k ge lt, b (k - 16 * i)))
-          (λ far. omega (arith, paste-after (c .bytes) d (16 * i) (omega arith) k far, t .small k))
-          (lt-or-le k (16 * i + length d)))
-          (lt-or-le k (16 * i));
+      small = bytes-paste (c .bytes) (16 * i) d (length d) (t .small) b;
     }
 
 -- an answer to a well-formed collector, by cases
@@ -106,13 +93,13 @@ put-typed c i d t b il dl =
 pub data StepView (c : Collector) (i : ℕ) (d : List ℕ) : Outcome Collector → Type 0 where
   bad-index : 63 < i → StepView c i d (refused 7 [])
   too-long : i < 64 → 16 < length d → StepView c i d (refused 2 [])
-  repeats : i < 64 → length d ≤ 16 → (getD (c .marks) i 0 ≡ 0 → ⊥) → holds c i d ≡ true → StepView c i d (accepted c)
-  differs : i < 64 → length d ≤ 16 → (getD (c .marks) i 0 ≡ 0 → ⊥) → holds c i d ≡ false → StepView c i d (refused 12 [])
+  repeats : i < 64 → length d ≤ 16 → (getD (c .marks) i 0 ≡ 0 → ⊥) → hasPart c i d ≡ true → StepView c i d (accepted c)
+  differs : i < 64 → length d ≤ 16 → (getD (c .marks) i 0 ≡ 0 → ⊥) → hasPart c i d ≡ false → StepView c i d (refused 12 [])
   joins : i < 64 → length d ≤ 16 → getD (c .marks) i 0 ≡ 0 → wellFormed (put c i d) ≡ true → StepView c i d (accepted (put c i d))
   clashes : i < 64 → length d ≤ 16 → getD (c .marks) i 0 ≡ 0 → wellFormed (put c i d) ≡ false → StepView c i d (refused 12 [])
 
 module _ (c : Collector) (i : ℕ) (d : List ℕ) where
-  view-heard : i < 64 → length d ≤ 16 → (getD (c .marks) i 0 ≡ 0 → ⊥) → (b : Bool) → holds c i d ≡ b → StepView c i d (if b then accepted c else refused 12 [])
+  view-heard : i < 64 → length d ≤ 16 → (getD (c .marks) i 0 ≡ 0 → ⊥) → (b : Bool) → hasPart c i d ≡ b → StepView c i d (if b then accepted c else refused 12 [])
   view-heard il dl nz true e = repeats il dl nz e
   view-heard il dl nz false e = differs il dl nz e
 
@@ -121,9 +108,9 @@ module _ (c : Collector) (i : ℕ) (d : List ℕ) where
   view-free il dl nz false e = clashes il dl nz e
 
   view-joining : i < 64 → length d ≤ 16 → (b : Bool) → eqb (getD (c .marks) i 0) 0 ≡ b
-      → StepView c i d (if b then if wellFormed (put c i d) then accepted (put c i d) else refused 12 [] else if holds c i d then accepted c else refused 12 [])
+      → StepView c i d (if b then if wellFormed (put c i d) then accepted (put c i d) else refused 12 [] else if hasPart c i d then accepted c else refused 12 [])
   view-joining il dl true e = view-free il dl (eqb-true _ _ e) (wellFormed (put c i d)) refl
-  view-joining il dl false e = view-heard il dl (eqb-false _ _ e) (holds c i d) refl
+  view-joining il dl false e = view-heard il dl (eqb-false _ _ e) (hasPart c i d) refl
 
   view-length : i < 64 → (b : Bool) → ltb 16 (length d) ≡ b → StepView c i d (if b then refused 2 [] else joining c i d)
   view-length il true e = too-long il (ltb-true _ _ e)

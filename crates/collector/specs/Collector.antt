@@ -47,9 +47,13 @@ allBelow (suc n) test = allBelow n test and test n
 abbrev pub answerOf : List ℕ → ℕ → List ℕ
 answerOf list i = take partLength (drop (partLength * i) list)
 
+-- the collector that is held in two arrays
+abbrev pub held : List ℕ → List ℕ → Collector
+held bytes marks = record { bytes = bytes; marks = marks }
+
 -- nothing heard
 abbrev pub fresh : Collector
-fresh = record { bytes = replicate capacity 0; marks = replicate parts 0 }
+fresh = held (replicate capacity 0) (replicate parts 0)
 
 -- A part's mark m is 0 where it was not heard, and one more than its length where it was.
 
@@ -87,19 +91,19 @@ unfoldable pub standsAt : List ℕ → ℕ → List ℕ → Bool
 standsAt bytes n part = allBelow (length part) (λ j. getD bytes (n + j) 0 =? getD part j 0)
 
 -- this part was heard at index i
-unfoldable pub holds : Collector → ℕ → List ℕ → Bool
-holds c i part = (getD (c .marks) i 0 =? suc (length part)) and standsAt (c .bytes) (partLength * i) part
+unfoldable pub hasPart : Collector → ℕ → List ℕ → Bool
+hasPart c i part = (getD (c .marks) i 0 =? suc (length part)) and standsAt (c .bytes) (partLength * i) part
 
 -- the part at its place, and its mark
 abbrev pub put : Collector → ℕ → List ℕ → Collector
-put c i part = record { bytes = paste (c .bytes) (partLength * i) part (length part); marks = set (c .marks) i (suc (length part)) }
+put c i part = held (paste (c .bytes) (partLength * i) part (length part)) (set (c .marks) i (suc (length part)))
 
 -- a part of legal index and length: a new one must leave the collector well-formed; "An equal repeat is accepted and changes nothing"
 abbrev pub joining : Collector → ℕ → List ℕ → Outcome Collector
 joining c i part =
     if getD (c .marks) i 0 =? 0
     then if wellFormed (put c i part) then accepted (put c i part) else refused 12 []
-    else if holds c i part then accepted c else refused 12 []
+    else if hasPart c i part then accepted c else refused 12 []
 
 -- the collector after an answer; "Collector: 9, then 7, then 2, then 12"
 unfoldable pub taking : Collector → ℕ → List ℕ → Outcome Collector

@@ -1,3 +1,4 @@
 pub mod Collector
+pub mod Demand
 pub mod Histories
 pub mod Shape

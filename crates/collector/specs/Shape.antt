@@ -75,10 +75,6 @@ pub record ShapeFits (marks : List ℕ) (s : Shape) : Type 0 where
 abbrev pub shapeWith : Shape → ℕ → ℕ → Shape
 shapeWith s i m = record { top = max (s .top) (filled (i + 1) m); gap = max (s .gap) (partly (parts - i) m); most = max (s .most) m; free = s .free }
 
--- the collector whose arrays these are
-abbrev pub held : List ℕ → List ℕ → Collector
-held bytes marks = record { bytes = bytes; marks = marks }
-
 -- what is to be done with an answer
 abbrev pub Judged : Collector → ℕ → List ℕ → Judgement → Type 0
 Judged c i part Store = (taking c i part ≡ accepted (put c i part)) × ((i ≤ lastIndex) × (length part ≤ partLength))

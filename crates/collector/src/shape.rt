@@ -1,8 +1,8 @@
 // The test of well-formedness in one pass over the marks: four largest bytes, which the compiler vectorises.
 ghost use Prim.Native.Nat.{_+_, _-_, _*_, _<_, _≤_, max};
 ghost use mathlib.Core.Path.{_≡_};
-ghost use Rattle.collector.specs.Collector.{bytesFit, capacity, leastTo, partLength, parts, wellFormed};
-ghost use Rattle.collector.specs.Shape.{ShapeFits, completeShape, filled, fits, free, held, holes, most, partly, shapeOf, shapeWith};
+ghost use Rattle.collector.specs.Collector.{bytesFit, capacity, held, leastTo, partLength, parts, wellFormed};
+ghost use Rattle.collector.specs.Shape.{ShapeFits, completeShape, filled, fits, free, holes, most, partly, shapeOf, shapeWith};
 use crate::Collector;
 
 // The mark of a full part.

@@ -1,5 +1,5 @@
 -- The program lends 1,024 bytes for each answer: no answer is longer.
-use Prim.Native.Nat.{ℕ, suc, _+_, _*_, _≤_, _<_}
+use Prim.Native.Nat.{ℕ, _+_, _*_, _≤_, _<_}
 use mathlib.Core.Bool.{Bool, true, false}
 use mathlib.Core.List.{List, [], _∷_}
 use mathlib.Core.Option.{Option, none, some}
@@ -13,16 +13,16 @@ use Rattle.auth.specs.declared.AuthType.{AuthType}
 use Rattle.auth.specs.declared.get_channel_authentication_capabilities.ChannelAuthenticationCapabilities.{ChannelAuthenticationCapabilities}
 use Rattle.base.specs.Choice.{if_then_else_}
 use Rattle.base.specs.Connection.{channelOf}
-use Rattle.base.specs.Field.{bits, byte, flag}
+use Rattle.base.specs.Field.{Bytes, bits, byte, flag}
 use Rattle.base.specs.Outcome.{Outcome, accepted, refused, _>>=_, faultsAs}
 use Rattle.base.specs.Verdict.{recordOf}
 use Rattle.base.specs.declared.connection.Channel.{Channel}
+use Rattle.base.proofs.little.Laws.{a-byte, all-bytes, bytes-take}
 use Rattle.channel.specs.GetChannelAccess.{accessFields, accessOf}
 use Rattle.channel.specs.declared.get_channel_access.ChannelAccess.{ChannelAccess}
-use Rattle.collector.specs.Collector.{complete, holds, isComplete, lastIndex, leastTo, listBy, listOf, lowest, missing, partLength, parts, put, taking, wellFormed}
-use Rattle.collector.specs.Histories.{Held, IsBytes}
+use Rattle.collector.specs.Collector.{complete, hasPart, isComplete, lastIndex, leastTo, listBy, listOf, lowest, missing, partLength, parts, put, taking, wellFormed}
+use Rattle.collector.specs.Histories.{Typed}
 use Rattle.collector.specs.declared.Collector.{Collector}
-use Rattle.collector.proofs.Asking.{take-bytes}
 use Rattle.collector.proofs.Complete.{lowest-le}
 use Rattle.info.specs.GetChannelInfo.{infoFields, infoOf}
 use Rattle.info.specs.declared.get_channel_info.ChannelInfo.{ChannelInfo}
@@ -102,34 +102,34 @@ three n h = go (ltb n 10) (ltb n 100) (decimal-digits n h)
     go false true e = omega arith
     go false false e = omega arith
 
-spaced-room : (numbers : List ℕ) → IsBytes numbers → length (spaced numbers) ≤ 4 * length numbers
+spaced-room : (numbers : List ℕ) → Bytes numbers → length (spaced numbers) ≤ 4 * length numbers
 unfolding spaced
 spaced-room [] h = omega arith
 spaced-room (n ∷ numbers) h =
-    let d = three n (h 0) in
-    let r = spaced-room numbers (λ i. h (suc i)) in
+    let d = three n (h .0) in
+    let r = spaced-room numbers (h .1) in
     simp length-append (omega arith)
 
-numbers-bytes : (list : List ℕ) → IsBytes list → IsBytes (numbersOf list)
-numbers-bytes list b i = go (ltb i (length (numbersOf list))) refl
+numbers-bytes : (list : List ℕ) → Bytes list → Bytes (numbersOf list)
+numbers-bytes list b = all-bytes (numbersOf list) (λ i. go i (ltb i (length (numbersOf list))) refl)
   where
-    go : (x : Bool) → ltb i (length (numbersOf list)) ≡ x → getD (numbersOf list) i 0 < 256
-    go true e = let (l, q) = numbered-at list i (ltb-true i (length (numbersOf list)) e) in rw q (b (5 * i + 1))
-    go false e = let q = List·getD-eq-default (numbersOf list) 0 (ltb-false i (length (numbersOf list)) e) in omega arith
+    go : (i : ℕ) (x : Bool) → ltb i (length (numbersOf list)) ≡ x → getD (numbersOf list) i 0 < 256
+    go i true e = let (l, q) = numbered-at list i (ltb-true i (length (numbersOf list)) e) in rw q (a-byte list b (5 * i + 1))
+    go i false e = let q = List·getD-eq-default (numbersOf list) 0 (ltb-false i (length (numbersOf list)) e) in omega arith
 
-suites-room : (list : List ℕ) → IsBytes list → length list ≤ 1024 → length (suitesText (numbersOf list)) ≤ 1024
+suites-room : (list : List ℕ) → Bytes list → length list ≤ 1024 → length (suitesText (numbersOf list)) ≤ 1024
 suites-room list b h =
     let n = five-each list in
     let s = spaced-room (numbersOf list) (numbers-bytes list b) in
     let l = suites-length (numbersOf list) in
     omega arith
 
-module _ (c : Collector) (t : Held c) where
+module _ (c : Collector) (t : Typed c) where
   list-room : length (listed (listOf c) .text) ≤ 1024
   list-room = go (wellFormed c) (isComplete c)
     where
       whole : (n : ℕ) → length (suitesText (numbersOf (take n (c .bytes)))) ≤ 1024
-      whole n = let l = t .bytes in let e = length-take n (c .bytes) in suites-room (take n (c .bytes)) (take-bytes n (c .bytes) (t .small)) (omega arith)
+      whole n = let l = t .bytes in let e = length-take n (c .bytes) in suites-room (take n (c .bytes)) (bytes-take n (c .bytes) (t .small)) (omega arith)
 
       go : (w k : Bool) → length (listed ((if w then accepted (if k then complete (leastTo (c .marks) parts) else missing (lowest (c .marks) parts)) else refused 9 []) >>= listBy (c .bytes)) .text) ≤ 1024
       go true true = whole (leastTo (c .marks) parts)
@@ -142,7 +142,7 @@ module _ (c : Collector) (t : Held c) where
       low-if (wellFormed c) _ _
       (low-if (ltb lastIndex i) _ _ (omega arith)
       (low-if (ltb partLength (length part)) _ _ (omega arith)
-      (low-if (eqb (getD (c .marks) i 0) 0) _ _ (low-if (wellFormed (put c i part)) _ _ tt (omega arith)) (low-if (holds c i part) _ _ tt (omega arith)))))
+      (low-if (eqb (getD (c .marks) i 0) 0) _ _ (low-if (wellFormed (put c i part)) _ _ tt (omega arith)) (low-if (hasPart c i part) _ _ tt (omega arith)))))
       (omega arith)
 
   heard-room : (i : ℕ) (part : List ℕ) → i < 256 → Small (length part) → length (heard c i part .said .text) ≤ 1024
@@ -152,7 +152,7 @@ module _ (c : Collector) (t : Held c) where
       go (accepted a) l = let f = block-fits i (length part) h k in omega arith
       go (refused number carried) l = refused-room number l
 
-  module _ (bytes : List ℕ) (b : IsBytes bytes) (l : length bytes ≤ 256) where
+  module _ (bytes : List ℕ) (b : Bytes bytes) (l : length bytes ≤ 256) where
     info-shown : length (shown Info infoText (infoOf bytes) .text) ≤ 1024
     info-shown = go (ltb (length bytes) 9) (channelOf (bits 0 4 (byte 0 bytes)))
       where
@@ -160,10 +160,10 @@ module _ (c : Collector) (t : Held c) where
         go true o = refused-room 1 (omega arith)
         go false (refused n v) = refused-room 1 (omega arith)
         go false (accepted channel) =
-            let p = b 3 in
-            let q = b 4 in
-            let r = b 5 in
-            let s = b 6 in
+            let p = a-byte bytes b 3 in
+            let q = a-byte bytes b 4 in
+            let r = a-byte bytes b 5 in
+            let s = a-byte bytes b 6 in
             info-room (infoFields bytes channel) (omega arith) (omega arith)
 
     access-shown : length (shown Access accessText (accessOf bytes) .text) ≤ 1024
@@ -182,12 +182,12 @@ module _ (c : Collector) (t : Held c) where
         go (accepted a) p = auth-room (bestAuth a)
         go (refused number carried) p = refused-room number p
 
-  saying-room : (word : Word) (bytes : List ℕ) → IsBytes bytes → length bytes ≤ 256 → length (saying c word bytes .said .text) ≤ 1024
+  saying-room : (word : Word) (bytes : List ℕ) → Bytes bytes → length bytes ≤ 256 → length (saying c word bytes .said .text) ≤ 1024
   saying-room Inf bytes b l = info-shown bytes b l
   saying-room Acc bytes b l = access-shown bytes b l
   saying-room Cap bytes b l = capabilities-shown bytes b l
   saying-room Sui [] b l = refused-room 14 (omega arith)
-  saying-room Sui (i ∷ part) b l = let h = b 0 in heard-room i part (omega arith) (omega arith)
+  saying-room Sui (i ∷ part) b l = let h = b .0 in heard-room i part (omega arith) (omega arith)
   saying-room End [] b l = list-room
   saying-room End (x ∷ bytes) b l = refused-room 14 (omega arith)
   saying-room Other bytes b l = refused-room 14 (omega arith)
@@ -203,15 +203,15 @@ pair-byte x y z = go (eqb x space) (digitOf y) (digitOf z) refl refl
     go true (accepted h) (refused n v) p q = omega arith
     go true (accepted h) (accepted l) p q = let a = digit-small y h p in let b = digit-small z l q in omega arith
 
-pairs-bytes : (text bytes : List ℕ) → pairsOf text ≡ accepted bytes → IsBytes bytes
-pairs-bytes text bytes e i = go (ltb i (length bytes)) refl
+pairs-bytes : (text bytes : List ℕ) → pairsOf text ≡ accepted bytes → Bytes bytes
+pairs-bytes text bytes e = all-bytes bytes (λ i. go i (ltb i (length bytes)) refl)
   where
-    go : (x : Bool) → ltb i (length bytes) ≡ x → getD bytes i 0 < 256
-    go true p = rw (bytes-at text bytes e .1 i (ltb-true i (length bytes) p)) (pair-byte (getD text (3 * i) 0) (getD text (3 * i + 1) 0) (getD text (3 * i + 2) 0))
-    go false p = let q = List·getD-eq-default bytes 0 (ltb-false i (length bytes) p) in omega arith
+    go : (i : ℕ) (x : Bool) → ltb i (length bytes) ≡ x → getD bytes i 0 < 256
+    go i true p = rw (bytes-at text bytes e .1 i (ltb-true i (length bytes) p)) (pair-byte (getD text (3 * i) 0) (getD text (3 * i + 1) 0) (getD text (3 * i + 2) 0))
+    go i false p = let q = List·getD-eq-default bytes 0 (ltb-false i (length bytes) p) in omega arith
 
 -- No answer to a line is longer, whatever the collector of the machine.
-pub room-enough : (c : Collector) → Held c → (line : List ℕ) → length (answering c line .said .text) ≤ 1024
+pub room-enough : (c : Collector) → Typed c → (line : List ℕ) → length (answering c line .said .text) ≤ 1024
 unfolding answering
 room-enough c t line = go (ltb longest (length line)) (pairsOf (drop 3 line)) refl refl
   where

@@ -6,8 +6,7 @@ ghost use Rattle.auth.specs.GetChannelAuthenticationCapabilities.{bestAuth, cap
 ghost use Rattle.base.specs.Outcome.{accepted};
 ghost use Rattle.base.specs.Written.{Writes};
 ghost use Rattle.channel.specs.GetChannelAccess.{accessOf};
-ghost use Rattle.collector.specs.Collector.{capacity, listOf};
-ghost use Rattle.collector.specs.Shape.{held};
+ghost use Rattle.collector.specs.Collector.{capacity, held, listOf};
 ghost use Rattle.info.specs.GetChannelInfo.{infoOf};
 ghost use Rattle.suites.specs.GetChannelCipherSuites.{numbersOf};
 ghost use Rattle.texts.specs.Texts.{accessText, authText, blockText, infoText, suitesText};

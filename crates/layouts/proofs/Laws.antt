@@ -8,14 +8,13 @@ use native.Mathlib.Omega.{arith}
 use lib.ListN.{length, drop}
 use lib.Seq.{getD-drop}
 use Rattle.base.specs.Connection.{channelField}
-use Rattle.base.specs.Field.{byte}
+use Rattle.base.specs.Field.{Bytes, byte}
 use Rattle.base.specs.Outcome.{Outcome, accepted, refused, _>>=_}
 use Rattle.base.specs.Written.{Writes, written, lengthOf}
 use Rattle.base.specs.declared.refusal.Refusal.{Refusal}
 use Rattle.base.specs.declared.written.Written.the-variants.{Length, Refused}
 use Rattle.base.proofs.Outcome.{Only, apart, steps}
 use Rattle.base.proofs.connection.Laws.{channel-iff}
-use Rattle.base.proofs.little.Laws.{Bytes}
 use Rattle.base.proofs.written.Laws.{filled}
 use Rattle.channel.specs.GetChannelAccess.{accessBytes, limitField, limitOf, modeField, modeOf}
 use Rattle.channel.specs.declared.get_channel_access.ChannelAccess.{ChannelAccess}

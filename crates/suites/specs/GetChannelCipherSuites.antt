@@ -78,8 +78,8 @@ abbrev pub noSuites : ChannelCipherSuites
 noSuites = part []
 
 -- 2 for a "suite response above 16 bytes"
-abbrev pub suitesOf : List ℕ → Outcome ChannelCipherSuites
-suitesOf response = if partLength <? length response then refused 2 [] else accepted (part response)
+abbrev pub partOf : List ℕ → Outcome ChannelCipherSuites
+partOf response = if partLength <? length response then refused 2 [] else accepted (part response)
 
 -- every byte is zero
 unfoldable pub zeros : List ℕ → Bool

@@ -1,6 +1,6 @@
 // The suites of a collected list: document 01, "asked for bytes or suites (a number byte each)".
 ghost use Rattle.base.specs.Written.{Writes};
-ghost use Rattle.collector.specs.Shape.{held};
+ghost use Rattle.collector.specs.Collector.{held};
 ghost use Rattle.suites.specs.Collected.{suitesOf};
 use crate::get_channel_cipher_suites::suite_numbers;
 use base::refusal::Refusal;

@@ -1,6 +1,6 @@
 // Get Channel Cipher Suites, App 54h: IPMI 2.0, Table 22-17; the Rust's get_channel_cipher_suites.rs.
 ghost use mathlib.Core.Path.{_≡_};
-ghost use Rattle.suites.specs.GetChannelCipherSuites.{authenticationOf, commandBytes, commandFor, commandOf, commandOn, confidentialityOf, integrityOf, isSuite, moved, noSuites, nothing, numbersOf, rowOf, saidCommand, saidRow, saidSuite, same, stepAt, stepNumber, stepOf, suiteFor, suiteOf, suitesBytes, suitesOf, zeros};
+ghost use Rattle.suites.specs.GetChannelCipherSuites.{authenticationOf, commandBytes, commandFor, commandOf, commandOn, confidentialityOf, integrityOf, isSuite, moved, noSuites, nothing, numbersOf, partOf, rowOf, saidCommand, saidRow, saidSuite, same, stepAt, stepNumber, stepOf, suiteFor, suiteOf, suitesBytes, zeros};
 ghost use Rattle.auth.specs.Algorithms.{saidAuthentication, saidConfidentiality, saidIntegrity};
 ghost use Rattle.base.specs.Outcome.{accepted};
 ghost use Rattle.base.specs.Verdict.{Gives};
@@ -132,7 +132,7 @@ pub fn filled(bytes: &[u8], data_length: usize) -> &[u8]
 
 impl ChannelCipherSuites {
     pub fn parse(response: &[u8]) -> SuitesAnswer
-        ensures { λ r. ⌜ Gives (suitesOf (now (response .entry))) noSuites (r .verdict) (r .suites) ⌝ }
+        ensures { λ r. ⌜ Gives (partOf (now (response .entry))) noSuites (r .verdict) (r .suites) ⌝ }
     {
         let mut record_data = [0; Collector::PART];
         if Collector::PART < response.len() {

@@ -99,8 +99,8 @@ abbrev pub recordAt : List ℕ → ℕ → Outcome TaggedRecord
 recordAt list position = startAt list position (ownerAt list position)
 
 -- a step: the record at a position, none at the end or past it
-abbrev pub stepAt : List ℕ → ℕ → Outcome (Option TaggedRecord)
-stepAt list position = if position <? length list then (do
+abbrev pub strictStepAt : List ℕ → ℕ → Outcome (Option TaggedRecord)
+strictStepAt list position = if position <? length list then (do
   r ← recordAt list position
   accepted (some r)) else
     accepted none
@@ -127,8 +127,8 @@ countOf list = do
   accepted (length records)
 
 -- "the strict list of suite numbers": of all records, in order
-abbrev pub numbersOf : List ℕ → Outcome (List ℕ)
-numbersOf list = do
+abbrev pub strictNumbersOf : List ℕ → Outcome (List ℕ)
+strictNumbersOf list = do
   records ← recordsOf list
   accepted (map (λ (r : TaggedRecord). r .number) records)
 
@@ -183,16 +183,16 @@ suitesIn list records = map (suiteIn list) records
 
 -- Writing.
 
--- a record's parts
-abbrev pub suite : Owner → ℕ → ℕ → List ℕ → List ℕ → Suite
-suite owner number authentication integrity confidentiality =
+-- a record of its parts
+abbrev pub suiteFrom : Owner → ℕ → ℕ → List ℕ → List ℕ → Suite
+suiteFrom owner number authentication integrity confidentiality =
     record { owner = owner; number = number; authentication = authentication; integrity = integrity; confidentiality = confidentiality }
 
 -- the numbers of algorithm bytes, or numbers, each under a tag
 abbrev pub retagged : ℕ → List ℕ → List ℕ
 retagged tag bytes = map (λ (b : ℕ). tagged tag (numberIn b)) bytes
 
--- "9 for a number that needs more than six bits or a vendor number of 2^24 or more"
+-- 9 for a number above six bits or a vendor number above three bytes: "a writer is given a record that no response reader gives"
 abbrev pub suiteWritten : Suite → Outcome (List ℕ)
 suiteWritten s = if fits s then accepted (suiteBytes s) else refused 9 []
 

@@ -4,7 +4,7 @@ ghost use mathlib.Core.List.{[], _∷_, _++_};
 ghost use Prim.Native.Nat.{suc, _<_, _≤_};
 ghost use lib.ListN.{take};
 ghost use Rattle.tagged.specs.Format.{allFit, confidentialityTag, integrityTag, ownerFits, startBytes};
-ghost use Rattle.tagged.specs.TaggedRecords.{bodyAt, countOf, entriesOf, entry, entryLength, listingOf, numbersIn, numbersOf, reach, recordAt, retagged, saidCount, saidRecord, saidStep, startLength, stepAt, suite, suiteWritten};
+ghost use Rattle.tagged.specs.TaggedRecords.{bodyAt, countOf, entriesOf, entry, entryLength, listingOf, numbersIn, reach, recordAt, retagged, saidCount, saidRecord, saidStep, startLength, strictNumbersOf, strictStepAt, suiteFrom, suiteWritten};
 ghost use Rattle.base.specs.Outcome.{accepted};
 ghost use Rattle.base.specs.Written.{Writes};
 use base::little::bytes4;
@@ -140,7 +140,7 @@ fn record_at(list: &[u8], position: usize) -> RecordAnswer
 
 // A step of the reading: the record at a position of the list, none at the end or past it.
 pub fn step_at(list: &[u8], position: usize) -> StepAnswer
-    ensures { λ r. ⌜ saidStep r ≡ stepAt (now (list .entry)) position ⌝ }
+    ensures { λ r. ⌜ saidStep r ≡ strictStepAt (now (list .entry)) position ⌝ }
 {
     if list.len() <= position {
         return StepAnswer::End;
@@ -216,7 +216,7 @@ fn listed(list: &[u8], width: usize, out: &mut [u8]) -> Written
 
 // The suite numbers of a sequence: of all records, in order.
 pub fn suite_numbers(list: &[u8], out: &mut [u8]) -> Written
-    ensures { λ r. ⌜ Writes (numbersOf (now (list .entry))) r (now (out .entry)) (now (out .exit)) ⌝ }
+    ensures { λ r. ⌜ Writes (strictNumbersOf (now (list .entry))) r (now (out .entry)) (now (out .exit)) ⌝ }
 {
     listed(list, 1, out)
 }
@@ -327,7 +327,7 @@ pub fn write(
     confidentiality: &[u8],
     out: &mut [u8],
 ) -> Written
-    ensures { λ r. ⌜ Writes (suiteWritten (suite owner number authentication (now (integrity .entry)) (now (confidentiality .entry)))) r (now (out .entry)) (now (out .exit)) ⌝ }
+    ensures { λ r. ⌜ Writes (suiteWritten (suiteFrom owner number authentication (now (integrity .entry)) (now (confidentiality .entry)))) r (now (out .entry)) (now (out .exit)) ⌝ }
 {
     if !owner_fits(owner) {
         return Written::Refused(Refusal::NoForm);

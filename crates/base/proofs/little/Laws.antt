@@ -5,18 +5,15 @@ use Prim.Native.Nat.{ℕ, zero, suc, _+_, _*_, _/_, _%_, _^_, _<_}
 use native.Mathlib.Nat.{pow-suc, div-lt-iff-lt-mul}
 use native.Mathlib.Omega.{arith}
 use lib.Dec.{lit<}
-use lib.ListN.{length, getD}
+use lib.ListN.{length, take, drop, getD, replicate}
+use lib.Seq.{paste}
+use Rattle.base.specs.Field.{Bytes}
 use Rattle.base.specs.Little.{little, littleBytes}
 
 -- a number that fits comes back from its bytes
 pub number-back : (width n : ℕ) → n < 256 ^ width → little (littleBytes width n) ≡ n
 number-back zero n h = let z : n < 1 = h in omega arith
 number-back (suc width) n h = rw (number-back width (n / 256) (div-lt-iff-lt-mul (lit< tt) .1 (rw pow-suc at h))) (omega arith)
-
--- every element is a byte
-abbrev pub Bytes : List ℕ → Type 0
-Bytes [] = Unit {0}
-Bytes (byte ∷ bytes) = (byte < 256) × Bytes bytes
 
 -- bytes come back from their number
 pub bytes-back : (bytes : List ℕ) → Bytes bytes → littleBytes (length bytes) (little bytes) ≡ bytes
@@ -36,6 +33,39 @@ pub a-byte : (bytes : List ℕ) → Bytes bytes → (k : ℕ) → getD bytes k 0
 a-byte [] h k = lit< tt
 a-byte (byte ∷ bytes) h zero = h .0
 a-byte (byte ∷ bytes) h (suc k) = a-byte bytes (h .1) k
+
+-- and bytes at every place are all
+pub all-bytes : (bytes : List ℕ) → ((k : ℕ) → getD bytes k 0 < 256) → Bytes bytes
+all-bytes [] h = tt
+all-bytes (byte ∷ bytes) h = (h 0, all-bytes bytes (λ k. h (suc k)))
+
+-- a part of bytes is bytes
+pub bytes-take : (n : ℕ) (bytes : List ℕ) → Bytes bytes → Bytes (take n bytes)
+bytes-take zero bytes h = tt
+bytes-take (suc n) [] h = h
+bytes-take (suc n) (byte ∷ bytes) h = (h .0, bytes-take n bytes (h .1))
+
+pub bytes-drop : (n : ℕ) (bytes : List ℕ) → Bytes bytes → Bytes (drop n bytes)
+bytes-drop zero bytes h = h
+bytes-drop (suc n) [] h = h
+bytes-drop (suc n) (byte ∷ bytes) h = bytes-drop n bytes (h .1)
+
+-- bytes put together, zeros among them, are bytes
+pub bytes-both : (s t : List ℕ) → Bytes s → Bytes t → Bytes (s ++ t)
+bytes-both [] t h k = k
+bytes-both (byte ∷ s) t h k = (h .0, bytes-both s t (h .1) k)
+
+pub bytes-zeros : (n : ℕ) → Bytes (replicate n 0)
+bytes-zeros zero = tt
+bytes-zeros (suc n) = (lit< tt, bytes-zeros n)
+
+pub zero-at : (n k : ℕ) → _≡_ {A = ℕ} (getD (replicate n 0) k 0) 0
+zero-at zero k = refl
+zero-at (suc n) zero = refl
+zero-at (suc n) (suc k) = zero-at n k
+
+pub bytes-paste : (d : List ℕ) (at : ℕ) (s : List ℕ) (n : ℕ) → Bytes d → Bytes s → Bytes (paste d at s n)
+bytes-paste d at s n h k = bytes-both (take at d ++ take n s) (drop (at + n) d) (bytes-both (take at d) (take n s) (bytes-take at d h) (bytes-take n s k)) (bytes-drop (at + n) d h)
 
 pub bytes-are : (width n : ℕ) (rest : List ℕ) → Bytes rest → Bytes (littleBytes width n ++ rest)
 bytes-are zero n rest h = h

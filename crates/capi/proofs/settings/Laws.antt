@@ -5,12 +5,11 @@ use Prim.Native.Nat.{ℕ, zero, suc}
 use native.Mathlib.Omega.{arith}
 use lib.ListN.{drop}
 use Rattle.base.specs.Connection.{channelField, channelOf}
-use Rattle.base.specs.Field.{byte}
+use Rattle.base.specs.Field.{Bytes, byte}
 use Rattle.base.specs.Outcome.{accepted, _>>=_}
 use Rattle.base.specs.declared.connection.Channel.{Channel}
 use Rattle.base.proofs.Outcome.{apart, steps}
 use Rattle.base.proofs.connection.Laws.{channel-iff}
-use Rattle.base.proofs.little.Laws.{Bytes}
 use Rattle.channel.specs.declared.get_channel_access.ChannelAccess.{ChannelAccess}
 use Rattle.setting.specs.SetChannelAccess.{applied, command, commandBytes, commandFor, commandOf, pairField, pairOf, partsBytes, saidCommand, saidSettings}
 use Rattle.setting.specs.declared.set_channel_access.AccessPair.{AccessPair}

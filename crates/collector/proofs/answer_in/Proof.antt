@@ -1,6 +1,6 @@
 use mathlib.Core.Path.{refl}
 use native.Mathlib.Omega.{arith}
-use Rattle.collector.specs.Shape.{held}
+use Rattle.collector.specs.Collector.{held}
 use Rattle.collector.proofs.Entries.{stored, left-store, left-keep, left-refuse}
 use borrow.Author.Needs.{needs}
 use Rattle.collector.proofs.answer_in.Statement.{statement}

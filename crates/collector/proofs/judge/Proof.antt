@@ -3,7 +3,8 @@ use native.Mathlib.Omega.{arith}
 use Prim.Native.Nat.{_+_}
 use borrow.Author.Tests.{not-true, not-false}
 use lib.ListN.{length, getD}
-use Rattle.collector.specs.Shape.{fits, held}
+use Rattle.collector.specs.Collector.{held}
+use Rattle.collector.specs.Shape.{fits}
 use Rattle.collector.proofs.Entries.{taking-9, says-7, says-2, says-store, says-clash, says-other, says-keep, says-differs}
 use borrow.Author.Needs.{needs}
 use Rattle.collector.proofs.judge.Statement.{statement}

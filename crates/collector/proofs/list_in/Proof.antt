@@ -2,8 +2,7 @@ use native.Mathlib.Omega.{arith}
 use mathlib.Core.Path.{sym, ap, _∙_}
 use Rattle.base.specs.declared.refusal.Refusal.the-variants.{Incomplete, NoForm}
 use Rattle.base.proofs.written.Laws.{refusing}
-use Rattle.collector.specs.Collector.{saidStatus}
-use Rattle.collector.specs.Shape.{held}
+use Rattle.collector.specs.Collector.{held, saidStatus}
 use Rattle.collector.proofs.Entries.{told-within, listing, unlisted, unformed}
 use borrow.Author.Needs.{needs}
 use Rattle.collector.proofs.list_in.Statement.{statement}

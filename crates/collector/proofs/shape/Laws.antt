@@ -15,9 +15,8 @@ use Rattle.collector.specs.declared.shape.Shape.{Shape}
 use Rattle.base.specs.Choice.{if_then_else_}
 use Rattle.collector.specs.Collector.{endOf, leastTo, lowest, marksFit, bytesFit, wellFormed, put, completeBy}
 use Rattle.collector.specs.Shape.{maxTo, filled, partly, free, topTo, gapTo, mostTo, freeTo, most, holes, shapeOf, fits, completeShape, ShapeFits, shapeWith}
-use Rattle.collector.proofs.Basic.{both-right, bool-cases, lt-or-le, eq-or-ne, end-small, end-large, low-le, le-low, MarksOk, Zeros, marks-fact, fact-marks, bytes-fact, fact-bytes}
+use Rattle.collector.proofs.Basic.{true-not-false, both-right, bool-cases, lt-or-le, eq-or-ne, end-small, end-large, low-le, le-low, MarksOk, Zeros, marks-fact, fact-marks, bytes-fact, fact-bytes}
 use Rattle.collector.proofs.Parts.{zeros-put}
-use Rattle.collector.proofs.Step.{true-not-false}
 use Rattle.collector.proofs.Complete.{lowest-le, lowest-below, lowest-at}
 
 -- the largest of some numbers

@@ -2,8 +2,7 @@ use mathlib.Core.Path.{sym, ap, _∙_}
 use Prim.Native.Nat.{ℕ}
 use borrow.Author.Tests.{not-true, not-false}
 use Rattle.base.specs.Outcome.{accepted}
-use Rattle.collector.specs.Collector.{complete, missing}
-use Rattle.collector.specs.Shape.{held}
+use Rattle.collector.specs.Collector.{complete, held, missing}
 use Rattle.collector.proofs.Entries.{shape-fits, complete-by, lowest-by, free-within, standing-9, standing-complete, standing-missing}
 use borrow.Author.Needs.{needs}
 use Rattle.collector.proofs.status_in.Statement.{statement}

@@ -1,5 +1,5 @@
 use borrow.Author.Needs.{needs}
-use Rattle.collector.specs.Shape.{held}
+use Rattle.collector.specs.Collector.{held}
 use Rattle.dump.proofs.Laws.{end-unwritten, end-written}
 use Rattle.dump.proofs.end.Statement.{statement}
 use Rattle.dump.proofs.end.Tie as tie

@@ -1,5 +1,5 @@
 use borrow.Author.Needs.{needs}
-use Rattle.collector.specs.Shape.{held}
+use Rattle.collector.specs.Collector.{held}
 use Rattle.dump.proofs.Laws.{end, kept, no-end}
 use Rattle.dump.proofs.end_pairs.Statement.{statement}
 use Rattle.dump.proofs.end_pairs.Tie as tie

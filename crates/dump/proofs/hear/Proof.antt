@@ -2,8 +2,7 @@ use borrow.Author.Needs.{needs}
 use native.Mathlib.Omega.{arith}
 use lib.ListN.{length}
 use Rattle.base.proofs.verdict.Laws.{fell, gave}
-use Rattle.collector.specs.Collector.{taking}
-use Rattle.collector.specs.Shape.{held}
+use Rattle.collector.specs.Collector.{held, taking}
 use Rattle.dump.proofs.Laws.{as-long, block-fits, heard-refused, heard-taken, never, stands, unroomed}
 use Rattle.dump.proofs.hear.Statement.{statement}
 use Rattle.dump.proofs.hear.Tie as tie

@@ -1,6 +1,6 @@
 use borrow.Author.Needs.{needs}
 use native.Mathlib.Omega.{arith}
-use Rattle.collector.specs.Shape.{held}
+use Rattle.collector.specs.Collector.{held}
 use Rattle.dump.proofs.Laws.{kept, no-sui, sui}
 use Rattle.dump.proofs.hear_pairs.Statement.{statement}
 use Rattle.dump.proofs.hear_pairs.Tie as tie

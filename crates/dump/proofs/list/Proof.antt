@@ -2,8 +2,7 @@ use borrow.Author.Needs.{needs}
 use native.Mathlib.Omega.{arith}
 use mathlib.Core.Path.{sym, ap, _∙_}
 use lib.ListN.{length-take}
-use Rattle.collector.specs.Collector.{saidStatus}
-use Rattle.collector.specs.Shape.{held}
+use Rattle.collector.specs.Collector.{held, saidStatus}
 use Rattle.collector.proofs.Entries.{told-within}
 use Rattle.dump.proofs.Laws.{formless, lacked, list-told}
 use Rattle.dump.proofs.list.Statement.{statement}

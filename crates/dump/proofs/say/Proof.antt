@@ -1,5 +1,5 @@
 use borrow.Author.Needs.{needs}
-use Rattle.collector.specs.Shape.{held}
+use Rattle.collector.specs.Collector.{held}
 use Rattle.dump.proofs.Laws.{kept}
 use Rattle.dump.proofs.say.Statement.{statement}
 use Rattle.dump.proofs.say.Tie as tie

@@ -3,8 +3,7 @@ use native.Mathlib.Omega.{arith}
 use lib.ListN.{length}
 use Rattle.base.proofs.written.Laws.{lacking}
 use Rattle.base.proofs.verdict.Laws.{fell, gave}
-use Rattle.collector.specs.Collector.{taking}
-use Rattle.collector.specs.Shape.{held}
+use Rattle.collector.specs.Collector.{held, taking}
 use Rattle.texts.specs.Texts.{blockText}
 use Rattle.dump.proofs.Laws.{text-refused, text-taken}
 use Rattle.dump.proofs.without_room.Statement.{statement}

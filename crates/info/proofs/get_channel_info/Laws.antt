@@ -10,14 +10,14 @@ use lib.Dec.{eqb, ltb}
 use lib.ListN.{length}
 use Rattle.base.specs.Choice.{if_then_else_}
 use Rattle.base.specs.Connection.{channelOf, channelField}
-use Rattle.base.specs.Field.{bits, byte, within}
+use Rattle.base.specs.Field.{Bytes, bits, byte, within}
 use Rattle.base.specs.Little.{little, littleBytes}
 use Rattle.base.specs.Outcome.{Outcome, accepted, refused, _>>=_, faultsAs}
 use Rattle.base.specs.declared.connection.Channel.{Channel}
 use Rattle.base.proofs.Outcome.{apart, steps, Only, only-steps, no-form, inside, ranged, only-ranged}
 use Rattle.base.proofs.connection.Laws.{channel-iff, channel-small, begins-only, no-channel-form}
 use Rattle.base.proofs.field.Laws.{so-long}
-use Rattle.base.proofs.little.Laws.{Bytes, a-byte, bytes-are, number-back}
+use Rattle.base.proofs.little.Laws.{a-byte, bytes-are, number-back}
 use Rattle.media.specs.Media.{mediumField, protocolField, sessionField}
 use Rattle.media.proofs.get_channel_info.Laws.{medium-back, medium-given, medium-only, protocol-back, protocol-given, protocol-only, session-back, session-given, session-only}
 use Rattle.info.specs.GetChannelInfo.{command, commandBytes, commandOf, infoBytes, infoFields, infoOf}

@@ -10,7 +10,7 @@ use borrow.Author.Tests.{eq-eqb, ne-eqb, eqb-true, le-ltb}
 use lib.Dec.{eqb, ltb}
 use lib.ListN.{length, getD, take, drop, replicate, length-drop, length-take, length-replicate, length-append, take-append-drop}
 use lib.Seq.{drop-cons, drop-drop, getD-drop, getD-append-add, take-at}
-use Rattle.base.specs.Field.{bits, byte}
+use Rattle.base.specs.Field.{Bytes, bits, byte}
 use Rattle.base.specs.Little.{little, littleBytes}
 use Rattle.base.specs.Named.{named}
 use Rattle.base.specs.Outcome.{accepted, refused}
@@ -18,7 +18,7 @@ use Rattle.base.specs.Written.{Writes}
 use Rattle.base.specs.declared.written.Written.{Written}
 use Rattle.base.proofs.Outcome.{apart, no-form}
 use Rattle.base.proofs.field.Laws.{so-long}
-use Rattle.base.proofs.little.Laws.{Bytes, a-byte, bytes-back, number-back}
+use Rattle.base.proofs.little.Laws.{a-byte, bytes-back, number-back}
 use Rattle.base.proofs.written.Laws.{filled}
 use Rattle.session.specs.ActivateSession.{beginBytes, beginOf, command, commandBytes, commandOf}
 use Rattle.auth.specs.Auth.{authTypeOf, authTypeValue, authTypes, privileges, privilegeOf, privilegeValue}

@@ -61,7 +61,7 @@ joined-shown m l = go (modeField (m .«access_mode»))
     go (accepted n) = refl
     go (refused n v) = refl
 
--- "A Get afterwards shows exactly the parts that were set, the part marked leave as before": four cases, one law.
+-- "a Get afterwards shows exactly the parts that were set, the part marked leave as before": four cases, one law.
 pub get-after : (k : SetChannelAccess) (before after : ChannelSettings) → applied k before ≡ accepted after → (kind : ChannelAccessType)
     → accessBytes (settingOf kind after)
     ≡ twoBytes
@@ -146,7 +146,7 @@ get-bytes k x y z w before after e kind f l g =
     ∙ rw
     (part (sets (k .«mode_pair») kind) modeByte (k .access) (settingOf kind before) sf bf, part (sets (k .«limit_pair») kind) limitByte (k .access) (settingOf kind before) sl bl, ym, zn, pm, pn)
 
--- The issue's example: `01 3F 04` is a command, and leaves everything as it was.
+-- An example: `01 3F 04` is a command, and leaves everything as it was.
 
 abbrev example : SetChannelAccess
 example =

@@ -14,7 +14,7 @@ use lib.Pow.{field, mod-mod-pow, mod-pow-add, shl-exact}
 use lib.Seq.{take-all}
 use mir.Val.{boolByte}
 use Rattle.base.specs.Connection.{channelOf, channelField}
-use Rattle.base.specs.Field.{byte, bits, flag, within}
+use Rattle.base.specs.Field.{Bytes, byte, bits, flag, within}
 use Rattle.base.specs.Outcome.{Outcome, accepted, refused, _>>=_, faultsAs}
 use Rattle.base.specs.Written.{Writes, written, lengthOf}
 use Rattle.base.specs.declared.refusal.Refusal.{Refusal}
@@ -22,7 +22,7 @@ use Rattle.base.specs.declared.written.Written.the-variants.{Length, Refused}
 use Rattle.base.proofs.Outcome.{apart, steps, Only, only-steps, no-form, ranged}
 use Rattle.base.proofs.connection.Laws.{begins-only, channel-iff, channel-small}
 use Rattle.base.proofs.field.Laws.{below, bit-small, same, so-long}
-use Rattle.base.proofs.little.Laws.{Bytes, a-byte}
+use Rattle.base.proofs.little.Laws.{a-byte}
 use Rattle.base.proofs.written.Laws.{filled}
 use Rattle.channel.specs.GetChannelAccess.{accessBytes, accessFields, accessOf, limitField, modeField}
 use Rattle.channel.specs.declared.get_channel_access.ChannelAccess.{ChannelAccess}

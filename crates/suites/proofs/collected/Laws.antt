@@ -1,17 +1,35 @@
--- What a collector's standing makes of its suites.
+-- The suites of a collector.
 use Prim.Native.Nat.{ℕ, _-_}
 use mathlib.Core.List.{List, [], _∷_}
-use mathlib.Core.Path.{_≡_, sym, subst}
+use mathlib.Core.Logic.{_↔_}
+use mathlib.Core.Path.{_≡_, sym, ap, subst}
 use native.Mathlib.Omega.{arith}
 use lib.ListN.{take, drop}
-use Rattle.base.specs.Outcome.{Outcome, accepted, refused}
+use Rattle.base.specs.Outcome.{Outcome, accepted, refused, _>>=_}
 use Rattle.base.specs.Written.{Writes}
 use Rattle.base.specs.declared.written.Written.{Written}
-use Rattle.collector.specs.Collector.{complete, missing, standingOf}
+use Rattle.base.proofs.Outcome.{apart}
+use Rattle.collector.specs.Collector.{complete, listOf, missing, standingOf}
+use Rattle.collector.specs.Demand.{AllHeard, Call, Explains, IsList, controllers}
+use Rattle.collector.specs.Histories.{Reachable, Typed, after}
 use Rattle.collector.specs.declared.Collector.{Collector}
+use Rattle.collector.proofs.Demand.{demand-3, list-refuses-9}
 use Rattle.suites.specs.Collected.{suitesOf}
 use Rattle.suites.specs.GetChannelCipherSuites.{numbersOf}
 
+-- Where the 3 comes from: a controller's answers, every index heard that its list needs, and the suites shown are those of its list.
+pub suites-are-the-lists : (list : List ℕ) → IsList list → (h : List Call) → Explains controllers list h → AllHeard controllers list h → suitesOf (after h) ≡ accepted (numbersOf list)
+suites-are-the-lists list s h e all = rw (demand-3 .its-list list s h e all .1)
+
+-- 9 exactly for "a collector that no calls make from a fresh one"
+pub suites-refuse-9 : (c : Collector) → Typed c → suitesOf c ≡ refused 9 [] ↔ (Reachable c → ⊥)
+suites-refuse-9 c t = ((λ e. list-refuses-9 c t .0 (back (listOf c) e)), λ n. ap (λ (o : Outcome (List ℕ)). o >>= λ list. accepted (numbersOf list)) (list-refuses-9 c t .1 n))
+  where
+    back : (o : Outcome (List ℕ)) → (o >>= λ list. accepted (numbersOf list)) ≡ refused 9 [] → o ≡ refused 9 []
+    back (accepted list) e = absurd (apart (sym e))
+    back (refused n v) e = cc
+
+-- By where it stands.
 module _ (c : Collector) where
   -- the list as the code cuts it out of the array
   pub listing : (n : ℕ) {r : Written} {before after : List ℕ} → standingOf c ≡ accepted (complete n) → Writes (accepted (numbersOf (take (n - 0) (drop 0 (c .bytes))))) r before after → Writes (suitesOf c) r before after

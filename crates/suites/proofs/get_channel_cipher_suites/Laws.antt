@@ -24,7 +24,7 @@ use Rattle.base.specs.declared.written.Written.{Written}
 use Rattle.base.proofs.field.Laws.{below, so-long}
 use Rattle.base.proofs.written.Laws.{padding}
 use Rattle.auth.specs.Algorithms as Algorithms
-use Rattle.suites.specs.GetChannelCipherSuites.{authenticationOf, column, command, commandBytes, commandOf, confidentialityOf, find, integrityOf, part, row, rowOf, same, suite, suiteFor, suiteOf, suites, suitesBytes, suitesOf, zeros}
+use Rattle.suites.specs.GetChannelCipherSuites.{authenticationOf, column, command, commandBytes, commandOf, confidentialityOf, find, integrityOf, part, partOf, row, rowOf, same, suite, suiteFor, suiteOf, suites, suitesBytes, zeros}
 use Rattle.collector.specs.Collector.{lastIndex, partLength}
 use Rattle.suites.specs.declared.get_channel_cipher_suites.ChannelCipherSuites.{ChannelCipherSuites}
 use Rattle.suites.specs.declared.get_channel_cipher_suites.CipherSuite.{CipherSuite}
@@ -84,7 +84,7 @@ module _ (s : List ℕ) (i : ℕ) where
   unfolding zeros
   zeros-end h = rw (drop-of-length-le s h)
 
-pub response-read : (s after : List ℕ) {r : Written} → length s ≤ partLength → Writes (accepted s) r (replicate partLength 0) after → suitesOf s ≡ accepted (record { «data_length» = length s; «record_data» = after })
+pub response-read : (s after : List ℕ) {r : Written} → length s ≤ partLength → Writes (accepted s) r (replicate partLength 0) after → partOf s ≡ accepted (record { «data_length» = length s; «record_data» = after })
 response-read s after h w = rw (le-ltb partLength (length s) h, padding partLength h w)
 
 all-zero : (t : List ℕ) → zeros t ≡ true → t ≡ replicate (length t) 0
@@ -102,10 +102,10 @@ zeros-are zero = refl
 zeros-are (suc n) = zeros-are n
 
 -- The reader gives back what the writer wrote. The machine's records have a part's length.
-pub suites-back : (c : ChannelCipherSuites) (s : List ℕ) → length (c .«record_data») ≡ partLength → suitesBytes c ≡ accepted s → suitesOf s ≡ accepted c
+pub suites-back : (c : ChannelCipherSuites) (s : List ℕ) → length (c .«record_data») ≡ partLength → suitesBytes c ≡ accepted s → partOf s ≡ accepted c
 suites-back c s l e = go (ltb partLength (c .«data_length»)) (zeros (drop (c .«data_length») (c .«record_data»))) refl refl
   where
-    go : (x y : Bool) → ltb partLength (c .«data_length») ≡ x → zeros (drop (c .«data_length») (c .«record_data»)) ≡ y → suitesOf s ≡ accepted c
+    go : (x y : Bool) → ltb partLength (c .«data_length») ≡ x → zeros (drop (c .«data_length») (c .«record_data»)) ≡ y → partOf s ≡ accepted c
     go true y p q = absurd (apart (rw p at e))
     go false false p q = absurd (apart (rw (p, q) at e))
     go false true p q =
@@ -119,7 +119,7 @@ suites-back c s l e = go (ltb partLength (c .«data_length»)) (zeros (drop (c .
         rw (← z, long, p, ← rest, take-append-drop n d)
 
 -- The writer writes every record that some response gives: the response itself.
-pub suites-given : (s : List ℕ) (c : ChannelCipherSuites) → suitesOf s ≡ accepted c → suitesBytes c ≡ accepted s
+pub suites-given : (s : List ℕ) (c : ChannelCipherSuites) → partOf s ≡ accepted c → suitesBytes c ≡ accepted s
 suites-given s c e = go (ltb partLength (length s)) refl
   where
     go : (x : Bool) → ltb partLength (length s) ≡ x → suitesBytes c ≡ accepted s
@@ -130,8 +130,8 @@ suites-given s c e = go (ltb partLength (length s)) refl
         rw (← z, p, drop-append-seam s (replicate (16 - length s) 0), zeros-are (16 - length s), take-append-seam s (replicate (16 - length s) 0))
 
 -- Refusal 9: "a writer is given a record that no response reader gives", exactly then.
-pub suites-no-form : (c : ChannelCipherSuites) → length (c .«record_data») ≡ partLength → suitesBytes c ≡ refused 9 [] ↔ ((s : List ℕ) → suitesOf s ≡ accepted c → ⊥)
-suites-no-form c l = no-form (suitesBytes c) (λ s. suitesOf s ≡ accepted c) (go (ltb partLength (c .«data_length»)) (zeros (drop (c .«data_length») (c .«record_data»)))) (λ s e. suites-back c s l e) (λ s g. (s, suites-given s c g))
+pub suites-no-form : (c : ChannelCipherSuites) → length (c .«record_data») ≡ partLength → suitesBytes c ≡ refused 9 [] ↔ ((s : List ℕ) → partOf s ≡ accepted c → ⊥)
+suites-no-form c l = no-form (suitesBytes c) (λ s. partOf s ≡ accepted c) (go (ltb partLength (c .«data_length»)) (zeros (drop (c .«data_length») (c .«record_data»)))) (λ s e. suites-back c s l e) (λ s g. (s, suites-given s c g))
   where
     go : (x y : Bool) → Only 9 (if x then refused 9 [] else if y then accepted (take (c .«data_length») (c .«record_data»)) else refused 9 [])
     go true y = refl

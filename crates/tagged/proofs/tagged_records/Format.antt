@@ -10,13 +10,13 @@ use lib.Dec.{eqb, ltb}
 use lib.ListN.{length, take, drop, length-drop, length-map, take-append-drop}
 use lib.Seq.{slice, drop-cons, drop-drop, drop-at, take-at, take-nil, getD-drop}
 use Rattle.base.specs.Choice.{if_then_else_}
-use Rattle.base.specs.Field.{byte}
+use Rattle.base.specs.Field.{Bytes, byte}
 use Rattle.base.specs.Little.{little}
 use Rattle.base.specs.Outcome.{Outcome, accepted}
 use Rattle.base.proofs.Outcome.{apart}
-use Rattle.base.proofs.little.Laws.{Bytes, a-byte, bytes-back, number-back, number-fits}
+use Rattle.base.proofs.little.Laws.{a-byte, bytes-back, bytes-drop, number-back, number-fits}
 use Rattle.tagged.specs.Format.{Suite, algorithmBytes, allFit, authenticationTag, confidentialityTag, fits, integrityTag, ownStart, ownerFits, standardStart, startBytes, suiteBytes, tagged}
-use Rattle.tagged.specs.TaggedRecords.{bodyAt, numberIn, numbersIn, ownerAt, reach, recordAt, recordWith, run, startLength, suite, suiteIn, tagIn}
+use Rattle.tagged.specs.TaggedRecords.{bodyAt, numberIn, numbersIn, ownerAt, reach, recordAt, recordWith, run, startLength, suiteFrom, suiteIn, tagIn}
 use Rattle.tagged.specs.declared.tagged_records.Owner.{Owner}
 use Rattle.tagged.specs.declared.tagged_records.Owner.the-variants.{Standard, Vendor}
 use Rattle.tagged.specs.declared.tagged_records.TaggedRecord.{TaggedRecord}
@@ -91,11 +91,6 @@ module _ (t : ℕ) (small : t < 4) where
       go : (v : Bool) → (if v then suc (run t s) else 0) ≡ 0 → (if v then suc (run t u) else 0) ≡ 0
       go true e = absurd (omega arith)
       go false e = refl
-
-pub bytes-drop : (n : ℕ) (s : List ℕ) → Bytes s → Bytes (drop n s)
-bytes-drop zero s b = b
-bytes-drop (suc n) [] b = b
-bytes-drop (suc n) (x ∷ s) b = bytes-drop n s (b .1)
 
 pub slice-take : (f k : ℕ) (s : List ℕ) → slice f (f + k) s ≡ take k (drop f s)
 slice-take zero k s = let z : 0 + k ≡ k = omega arith in rw z
@@ -251,9 +246,9 @@ module _ (list : List ℕ) where
       let high : byte (p + 4) list ≡ v / 256 / 256 % 256 = at-place p 4 ∙ ap (byte 4) e in
       (rw (first, low, middle, high) (ap (λ (x : ℕ). some (Vendor x)) (number-back 3 v (ltb-true v (256 ^ 3) f))), at-place p 1 ∙ ap (byte 1) e, sym (drop-drop 5 p list) ∙ ap (drop 5) e)
 
-  body-back : (p at : ℕ) (owner : Owner) (n a : ℕ) (i c rest : List ℕ) → fits (suite owner n a i c) ≡ true → run confidentialityTag rest ≡ 0
+  body-back : (p at : ℕ) (owner : Owner) (n a : ℕ) (i c rest : List ℕ) → fits (suiteFrom owner n a i c) ≡ true → run confidentialityTag rest ≡ 0
       → run integrityTag (map (tagged confidentialityTag) c ++ rest) ≡ 0 → p ≤ at → drop at list ≡ algorithmBytes a i c ++ rest
-      → (r : TaggedRecord) × (bodyAt list owner n at ≡ accepted r) × (suiteIn list r ≡ suite owner n a i c) × (drop (r .end) list ≡ rest) × (p < r .end)
+      → (r : TaggedRecord) × (bodyAt list owner n at ≡ accepted r) × (suiteIn list r ≡ suiteFrom owner n a i c) × (drop (r .end) list ≡ rest) × (p < r .end)
   body-back p at owner n a i c rest f stop stop-i l e =
       let (f0, f1) = both-true (ownerFits owner) _ f in
       let (f2, f3) = both-true (ltb a 64) _ f1 in

@@ -14,7 +14,7 @@ use Rattle.base.specs.declared.written.Written.the-variants.{Length, Refused}
 use Rattle.base.specs.declared.refusal.Refusal.the-variants.{NoRoom}
 use Rattle.base.proofs.Outcome.{apart, steps}
 use Rattle.base.proofs.written.Laws.{fitting, joined, lacking}
-use Rattle.tagged.specs.TaggedRecords.{badRecord, countOf, entries, entriesOf, entry, entryLength, numbersOf, recordAt, recordsOf}
+use Rattle.tagged.specs.TaggedRecords.{badRecord, countOf, entries, entriesOf, entry, entryLength, recordAt, recordsOf, strictNumbersOf}
 use Rattle.tagged.specs.declared.tagged_records.Owner.{Owner}
 use Rattle.tagged.specs.declared.tagged_records.Owner.the-variants.{Standard, Vendor}
 use Rattle.tagged.specs.declared.tagged_records.TaggedRecord.{TaggedRecord}
@@ -40,7 +40,7 @@ module _ (width : ℕ) (w : width ≤ entryLength) where
       rw length-append (omega arith)
 
 -- the first byte of each entry is its number
-pub numbers-are : (list : List ℕ) → entriesOf 1 list ≡ numbersOf list
+pub numbers-are : (list : List ℕ) → entriesOf 1 list ≡ strictNumbersOf list
 numbers-are list = go (recordsOf list)
   where
     same : (records : List TaggedRecord) → entries 1 records ≡ map (λ (r : TaggedRecord). r .number) records

@@ -7,19 +7,19 @@ use Prim.Native.Nat.{ℕ, zero, suc, _+_, _-_, _≤_, _<_}
 use native.Mathlib.Omega.{arith}
 use borrow.Author.Tests.{ltb-true, ltb-false}
 use lib.Dec.{ltb}
-use lib.ListN.{length, getD, take, drop, replicate, length-append, length-drop, take-append-drop, List·getD-append}
+use lib.ListN.{length, take, drop, replicate, length-append, length-drop, take-append-drop, List·getD-append}
 use lib.Seq.{take-append-le, take-append-add, getD-append-add, getD-take, length-take-le}
 use Rattle.base.specs.Choice.{if_then_else_}
-use Rattle.base.specs.Field.{byte}
+use Rattle.base.specs.Field.{Bytes, byte}
 use Rattle.base.specs.Outcome.{Outcome, accepted, refused, _>>=_}
 use Rattle.base.proofs.Outcome.{apart}
-use Rattle.base.proofs.little.Laws.{Bytes}
+use Rattle.base.proofs.little.Laws.{bytes-both, bytes-drop, bytes-zeros, zero-at}
 use Rattle.tagged.specs.Format.{Sequence, Suite, algorithmBytes, allFit, authenticationTag, confidentialityTag, fits, integrityTag, ownStart, ownerFits, sequenceBytes, standardStart, startBytes, suiteBytes, suitesFit, tagged}
-use Rattle.tagged.specs.TaggedRecords.{badRecord, recordAt, recordWith, recordsFrom, recordsOf, run, startLength, suite, suiteIn, tagIn}
+use Rattle.tagged.specs.TaggedRecords.{badRecord, recordAt, recordWith, recordsFrom, recordsOf, run, startLength, suiteFrom, suiteIn, tagIn}
 use Rattle.tagged.specs.declared.tagged_records.Owner.{Owner}
 use Rattle.tagged.specs.declared.tagged_records.Owner.the-variants.{Standard, Vendor}
 use Rattle.tagged.specs.declared.tagged_records.TaggedRecord.{TaggedRecord}
-use Rattle.tagged.proofs.tagged_records.Format.{Is, Start, at-place, both-true, bytes-drop, fit-head, neither, next, own, owner-fits, record-back, run-first, run-none, standard, start-back, start-bytes, started, tag-is, with-is}
+use Rattle.tagged.proofs.tagged_records.Format.{Is, Start, at-place, both-true, fit-head, neither, next, own, owner-fits, record-back, run-first, run-none, standard, start-back, start-bytes, started, tag-is, with-is}
 use Rattle.tagged.proofs.tagged_records.Steps.{View, short, unowned, untagged, view, whole}
 use Rattle.tagged.proofs.tagged_records.Writing.{start-short}
 use Rattle.tagged.proofs.tagged_records.Sequences.{begins, confidentiality-fits, integrity-stops, some-bytes}
@@ -30,10 +30,6 @@ same-place e = cc
 bytes-left : (s t : List ℕ) → Bytes (s ++ t) → Bytes s
 bytes-left [] t b = tt
 bytes-left (x ∷ s) t b = (b .0, bytes-left s t (b .1))
-
-bytes-both : (s t : List ℕ) → Bytes s → Bytes t → Bytes (s ++ t)
-bytes-both [] t b c = c
-bytes-both (x ∷ s) t b c = (b .0, bytes-both s t (b .1) c)
 
 -- a record's bytes up to any place can be gone on with
 complete : (t : List ℕ) (s : Suite) (j : ℕ) → fits s ≡ true → Bytes (suiteBytes s) → take j t ≡ take j (suiteBytes s) → (c : List ℕ) × Bytes c × Sequence (take j t ++ c)
@@ -46,15 +42,6 @@ kept : (x c : List ℕ) (m k : ℕ) → k < m → m ≤ length x → byte k (tak
 kept x c m k h l =
     let n = length-take-le m x l in
     List·getD-append (take m x) c 0 k (omega arith) ∙ getD-take m x k 0 h
-
-zero-at : (m n : ℕ) → _≡_ {A = ℕ} (getD (replicate m 0) n 0) 0
-zero-at zero n = refl
-zero-at (suc m) zero = refl
-zero-at (suc m) (suc n) = zero-at m n
-
-zeros-bytes : (m : ℕ) → Bytes (replicate m 0)
-zeros-bytes zero = tt
-zeros-bytes (suc m) = (omega arith, zeros-bytes m)
 
 start-long : (owner : Owner) (n : ℕ) → length (startBytes owner n) ≡ startLength owner
 start-long Standard n = refl
@@ -90,7 +77,7 @@ module _ (list : List ℕ) (b : Bytes list) (p : ℕ) where
   filled = drop p list ++ replicate 6 0
 
   filled-bytes : Bytes filled
-  filled-bytes = bytes-both (drop p list) (replicate 6 0) (bytes-drop p list b) (zeros-bytes 6)
+  filled-bytes = bytes-both (drop p list) (replicate 6 0) (bytes-drop p list b) (bytes-zeros 6)
 
   filled-first : p < length list → byte 0 filled ≡ byte p list
   filled-first h =
@@ -173,7 +160,7 @@ module _ (list : List ℕ) (b : Bytes list) where
       let short : j ≤ length start = omega arith in
       complete
       (drop p list)
-      (suite owner (byte (p + 1) list) 0 [] [])
+      (suiteFrom owner (byte (p + 1) list) 0 [] [])
       j
       (rw (owner-fits list b p owner s))
       (bytes-both start (0 ∷ []) c (omega arith, tt))

@@ -9,9 +9,9 @@ use borrow.Author.Tests.{ne-eqb, lt-ltb, le-ltb, ltb-false}
 use lib.Dec.{ltb}
 use lib.ListN.{length, drop, length-drop, drop-of-length-le}
 use Rattle.base.specs.Choice.{if_then_else_}
+use Rattle.base.specs.Field.{Bytes}
 use Rattle.base.specs.Outcome.{Outcome, accepted, refused, isAccepted, _>>=_}
 use Rattle.base.proofs.Outcome.{Only, apart, no-form, steps}
-use Rattle.base.proofs.little.Laws.{Bytes}
 use Rattle.tagged.specs.Format.{Reading, Sequence, Suite, algorithmBytes, allFit, confidentialityTag, fits, integrityTag, ownerFits, sequenceBytes, startBytes, suiteBytes, suitesFit, tagged}
 use Rattle.tagged.specs.TaggedRecords.{recordAt, recordsFrom, recordsOf, run, allWritten, suiteIn, suiteWritten, suitesIn}
 use Rattle.tagged.specs.declared.tagged_records.Owner.{Owner}
@@ -119,7 +119,7 @@ module _ (list : List ℕ) where
       go (accepted rs) e t = (suitesIn list rs, accepted-reads b rs e)
       go (refused n v) e t = let z : _≡_ {A = ℕ} 0 1 = cc in absurd (omega arith)
 
--- "What is read and written back is the bytes", and what is written is read as it was.
+-- "A writer gives back the bytes", and what is written is read as it was.
 
 suite-written : (s : Suite) → fits s ≡ true → suiteWritten s ≡ accepted (suiteBytes s)
 suite-written s f = rw f

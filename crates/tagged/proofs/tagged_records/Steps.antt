@@ -17,7 +17,7 @@ use Rattle.base.specs.Little.{little}
 use Rattle.base.specs.Outcome.{Outcome, accepted, refused, _>>=_}
 use Rattle.base.proofs.Outcome.{apart}
 use Rattle.tagged.specs.Format.{authenticationTag, confidentialityTag, integrityTag, ownStart, standardStart}
-use Rattle.tagged.specs.TaggedRecords.{badRecord, bodyAt, countOf, numberIn, ownerAt, reach, recordAt, recordWith, recordsFrom, recordsOf, run, saidRecord, startAt, startLength, stepAt, tagIn}
+use Rattle.tagged.specs.TaggedRecords.{badRecord, bodyAt, countOf, numberIn, ownerAt, reach, recordAt, recordWith, recordsFrom, recordsOf, run, saidRecord, startAt, startLength, strictStepAt, tagIn}
 use Rattle.tagged.specs.declared.tagged_records.Owner.{Owner}
 use Rattle.tagged.specs.declared.tagged_records.Owner.the-variants.{Standard, Vendor}
 use Rattle.tagged.specs.declared.tagged_records.RecordAnswer.{RecordAnswer}
@@ -134,10 +134,10 @@ module _ (list : List ℕ) (p : ℕ) where
       go o (untagged owner w h t) e = absurd (apart e)
 
   -- a step, by the record that is read
-  pub step-end : length list ≤ p → accepted none ≡ stepAt list p
+  pub step-end : length list ≤ p → accepted none ≡ strictStepAt list p
   step-end h = rw (le-ltb p (length list) h)
 
-  pub step-read : {o : Outcome TaggedRecord} → p < length list → recordAt list p ≡ o → (o >>= λ r. accepted (some r)) ≡ stepAt list p
+  pub step-read : {o : Outcome TaggedRecord} → p < length list → recordAt list p ≡ o → (o >>= λ r. accepted (some r)) ≡ strictStepAt list p
   step-read h e = rw (lt-ltb p (length list) h, e)
 
 -- what an answer's case tells of the outcome
@@ -220,13 +220,13 @@ followed list none = accepted []
 followed list (some r) = before (restOf list) (accepted r)
 
 -- Who takes one step after the other gets the list's records; the first step that is refused is refused as the list is.
-pub by-steps : (list : List ℕ) (p : ℕ) → restOf list p ≡ (stepAt list p >>= followed list)
+pub by-steps : (list : List ℕ) (p : ℕ) → restOf list p ≡ (strictStepAt list p >>= followed list)
 by-steps list p = go (ltb p (length list)) refl
   where
     same : (o : Outcome TaggedRecord) → before (restOf list) o ≡ ((o >>= λ r. accepted (some r)) >>= followed list)
     same (accepted r) = refl
     same (refused n v) = refl
 
-    go : (b : Bool) → ltb p (length list) ≡ b → restOf list p ≡ (stepAt list p >>= followed list)
+    go : (b : Bool) → ltb p (length list) ≡ b → restOf list p ≡ (strictStepAt list p >>= followed list)
     go false e = rw e (rest-end list p (ltb-false _ _ e))
     go true e = rw e (rest-read list p (ltb-true _ _ e) refl ∙ same (recordAt list p))

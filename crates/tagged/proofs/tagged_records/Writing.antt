@@ -17,7 +17,7 @@ use Rattle.base.specs.declared.written.Written.{Written}
 use Rattle.base.specs.declared.written.Written.the-variants.{Length, Refused}
 use Rattle.base.proofs.written.Laws.{fitting, joined, lacking, stored}
 use Rattle.tagged.specs.Format.{allFit, authenticationTag, confidentialityTag, integrityTag, ownerFits, startBytes, tagged}
-use Rattle.tagged.specs.TaggedRecords.{numberIn, numbersIn, retagged, startLength, suite, suiteWritten}
+use Rattle.tagged.specs.TaggedRecords.{numberIn, numbersIn, retagged, startLength, suiteFrom, suiteWritten}
 use Rattle.tagged.specs.declared.tagged_records.Owner.{Owner}
 use Rattle.tagged.specs.declared.tagged_records.Owner.the-variants.{Standard, Vendor}
 use Rattle.tagged.proofs.tagged_records.Format.{fit-head}
@@ -109,7 +109,7 @@ fit-numbers tag (n ∷ numbers) e =
     rw (z, fit-numbers tag numbers rest)
 
 pub as-written : (owner : Owner) (number authentication : ℕ) (integrity confidentiality : List ℕ) → ownerFits owner ≡ true → authentication < 64 → allFit integrity ≡ true → allFit confidentiality ≡ true
-    → suiteWritten (suite owner number authentication integrity confidentiality)
+    → suiteWritten (suiteFrom owner number authentication integrity confidentiality)
     ≡ accepted ((startBytes owner number ++ (authentication ∷ [])) ++ (retagged integrityTag integrity ++ retagged confidentialityTag confidentiality))
 as-written owner number authentication integrity confidentiality o a i c =
     rw (o, lt-ltb authentication 64 a, i, c, fit-numbers integrityTag integrity i, fit-numbers confidentialityTag confidentiality c, append-assoc, zero-add)

@@ -8,7 +8,7 @@ use crate::text;
 /// alone.
 const LETTERS: [u8; 7] = [0xC0, 0xC1, 0x03, 0x41, 0x81, 0x00, 0xC2];
 
-/// The request's own, the empty one, and some next to them.
+/// Short lists, the empty one among them: whole, broken off or spoilt.
 const EXAMPLES: [&[u8]; 12] = [
     &[],
     &[0xC0],

@@ -3,8 +3,7 @@ use native.Mathlib.Omega.{arith}
 use mathlib.Core.Path.{sym, ap, _∙_}
 use Rattle.base.specs.declared.refusal.Refusal.the-variants.{Incomplete, NoForm}
 use Rattle.base.proofs.written.Laws.{refusing}
-use Rattle.collector.specs.Collector.{saidStatus}
-use Rattle.collector.specs.Shape.{held}
+use Rattle.collector.specs.Collector.{held, saidStatus}
 use Rattle.collector.proofs.Entries.{told-within}
 use Rattle.suites.proofs.collected.Laws.{listing, unlisted, unformed}
 use Rattle.suites.proofs.collected.collected_suites_in.Statement.{statement}
