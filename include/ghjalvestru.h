@@ -41,11 +41,13 @@ enum ghj_refusal {
     GHJ_BAD_RECORD = 16 /* carries the place; one above 2^55 - 1 counts as 2^55 - 1 */
 };
 
-/* No type, row or suite: "answers none, which counts as accepted". */
-#define GHJ_NONE ((uint64_t)1 << 17)
+/* The number names no type, level, row or suite, or there is none: "answers none, which counts as accepted". Nothing is
+ * written. Like GHJ_IS_MISSING's numbers it is apart from every length and count: these are below 2^61, as no slice is as
+ * long. */
+#define GHJ_NONE ((uint64_t)1 << 62)
 
-/* Requests: the data of each command at the start of `out`; the number is their length. Refusals come in the order of the
- * arguments, then GHJ_NO_ROOM. The whole number of a type or level counts, as a command writes no reserved bits. */
+/* Requests: the data of each command at the start of `out`; the number is their length. The first argument at fault
+ * decides, and GHJ_NO_ROOM comes last. The whole number of a type or level counts, as a command writes no reserved bits. */
 
 /* Get Channel Access, 41h. 2 bytes: GHJ_NO_CHANNEL, then GHJ_NO_FORM where kind is not 1 (non-volatile) or 2
  * (volatile). */
@@ -54,17 +56,15 @@ uint64_t ghj_access_request(uint8_t channel, uint8_t kind, uint8_t *out, size_t 
 /* Get Channel Info, 42h. 1 byte: GHJ_NO_CHANNEL. */
 uint64_t ghj_info_request(uint8_t channel, uint8_t *out, size_t out_length);
 
-/* Get Channel Authentication Capabilities, 38h. 2 bytes: GHJ_NO_CHANNEL, then GHJ_INVALID_PRIVILEGE_LEVEL with the byte
- * where privilege is not 1 to 5. */
+/* Get Channel Authentication Capabilities, 38h. 2 bytes: GHJ_NO_CHANNEL, then GHJ_NONE where privilege is not 1 to 5. */
 uint64_t ghj_capabilities_request(uint8_t channel, uint8_t privilege, uint8_t *out, size_t out_length);
 
-/* Get Session Challenge, 39h. 17 bytes: GHJ_INVALID_AUTH_TYPE with the byte where auth_type is not 0, 1, 2 or 4, then
- * GHJ_LONG_NAME where the name has more than 16 bytes. */
+/* Get Session Challenge, 39h. 17 bytes: GHJ_NONE where auth_type is not 0, 1, 2 or 4, then GHJ_LONG_NAME where the name
+ * has more than 16 bytes. */
 uint64_t ghj_challenge_request(uint8_t auth_type, const uint8_t *name, size_t name_length, uint8_t *out,
                                size_t out_length);
 
-/* Activate Session, 3Ah. 22 bytes: GHJ_INVALID_AUTH_TYPE where auth_type is not 0, 1, 2 or 4, then
- * GHJ_INVALID_PRIVILEGE_LEVEL where privilege is not 1 to 5, each with the byte. */
+/* Activate Session, 3Ah. 22 bytes: GHJ_NONE where auth_type is not 0, 1, 2 or 4 or privilege is not 1 to 5. */
 uint64_t ghj_activation_request(uint8_t auth_type, uint8_t privilege, const uint8_t challenge[16], uint32_t sequence,
                                 uint8_t *out, size_t out_length);
 
@@ -128,14 +128,14 @@ uint64_t ghj_medium_text(uint8_t medium, uint8_t *out, size_t out_length);
 uint64_t ghj_protocol_text(uint8_t protocol, uint8_t *out, size_t out_length);
 uint64_t ghj_session_support_text(uint8_t support, uint8_t *out, size_t out_length);
 
-/* An authentication type's name: GHJ_INVALID_AUTH_TYPE with the number where it is not 0, 1, 2 or 4, then GHJ_NO_ROOM. */
+/* An authentication type's name: GHJ_NONE where the number is not 0, 1, 2 or 4, then GHJ_NO_ROOM. */
 uint64_t ghj_auth_type_name(uint8_t auth_type, uint8_t *out, size_t out_length);
 
 /* The number of the strongest authentication type that is offered (each argument: 0 for not offered), or GHJ_NONE. */
 uint64_t ghj_best_auth(uint8_t key, uint8_t md5, uint8_t md2, uint8_t none);
 
-/* 0 where auth_type is weaker than other, 1 equal, 2 stronger; weakest first: none, Key, MD2, MD5.
- * GHJ_INVALID_AUTH_TYPE with the first number that is not 0, 1, 2 or 4. */
+/* 0 where auth_type is weaker than other, 1 equal, 2 stronger; weakest first: none, Key, MD2, MD5. GHJ_NONE where one of
+ * the numbers is not 0, 1, 2 or 4. */
 uint64_t ghj_compare_strength(uint8_t auth_type, uint8_t other);
 
 /* A suite's three algorithms, 3 bytes: authentication, integrity, confidentiality. GHJ_NONE, and nothing written, where
@@ -212,7 +212,7 @@ uint64_t ghj_collector_take(struct ghj_collector *collector, uint8_t index, cons
 
 /* Complete: the list's length. Not: GHJ_IS_MISSING, and the lowest unheard index. Or GHJ_NO_FORM. */
 uint64_t ghj_collector_status(const uint8_t bytes[1024], const uint8_t marks[64]);
-#define GHJ_IS_MISSING(number) (((number) >> 16) == 1)
+#define GHJ_IS_MISSING(number) (((number) >> 61) == 1)
 #define GHJ_MISSING(number) ((unsigned)((number) & 0xFF))
 
 /* The whole list, and the numbers of its suites: GHJ_NO_FORM, then GHJ_INCOMPLETE, then GHJ_NO_ROOM. */

@@ -22,10 +22,10 @@ pub const LISTED: usize = 5;
 
 /// Set in a number that is a refusal.
 pub const REFUSED: u64 = 1 << 63;
-/// Added to the lowest unheard index by [`collector_status`].
-pub const MISSING: u64 = 1 << 16;
-/// Nothing has this number, or there is none left; not a refusal.
-pub const NONE: u64 = 1 << 17;
+/// Nothing has this number, or there is none left; not a refusal, and nothing is written. No length or count is as large.
+pub const NONE: u64 = 1 << 62;
+/// Added to the lowest unheard index by [`collector_status`]. No length or count is as large.
+pub const MISSING: u64 = 1 << 61;
 
 /// Functions from bytes to bytes.
 macro_rules! from_bytes {
@@ -91,7 +91,7 @@ from_numbers! {
     access_request(channel, kind) = ghj_access_request;
     /// The data of Get Channel Info.
     info_request(channel) = ghj_info_request;
-    /// The data of Get Channel Authentication Capabilities.
+    /// The data of Get Channel Authentication Capabilities; [`NONE`] where the level's whole number names none.
     capabilities_request(channel, privilege) = ghj_capabilities_request;
     /// The data of Get Channel Cipher Suites.
     suites_request(channel, index) = ghj_suites_request;
@@ -107,7 +107,7 @@ from_numbers! {
     protocol_text(protocol) = ghj_protocol_text;
     /// The text of a session support.
     session_support_text(support) = ghj_session_support_text;
-    /// The name of an authentication type, whose whole number counts.
+    /// The name of an authentication type; [`NONE`] where the whole number names none.
     auth_type_name(auth_type) = ghj_auth_type_name;
     /// The three algorithms of a suite.
     suite_algorithms(suite) = ghj_suite_algorithms;
@@ -182,7 +182,7 @@ pub fn set_access_apply(
     unsafe { ghj_set_access_apply(mode_pair, limit_pair, access, settings, start, length) }
 }
 
-/// The data of Get Session Challenge; the type's whole number counts.
+/// The data of Get Session Challenge; [`NONE`] where the type's whole number names none.
 pub fn challenge_request(auth_type: u8, name: &[u8], out: &mut [u8]) -> u64 {
     // SAFETY: each pointer goes with its slice's length, and `out` is lent to this call alone.
     unsafe {
@@ -196,7 +196,7 @@ pub fn challenge_request(auth_type: u8, name: &[u8], out: &mut [u8]) -> u64 {
     }
 }
 
-/// The data of Activate Session; the whole numbers of type and level count.
+/// The data of Activate Session; [`NONE`] where the whole number of the type or of the level names none.
 pub fn activation_request(
     auth_type: u8,
     privilege: u8,
@@ -214,7 +214,7 @@ pub fn best_auth(key: u8, md5: u8, md2: u8, none: u8) -> u64 {
     ghj_best_auth(key, md5, md2, none)
 }
 
-/// 0 where the first is weaker, 1 where they are equal, 2 where it is stronger; the types' whole numbers count.
+/// 0 where the first is weaker, 1 where they are equal, 2 where it is stronger; [`NONE`] where a whole number names no type.
 pub fn compare_strength(auth_type: u8, other: u8) -> u64 {
     ghj_compare_strength(auth_type, other)
 }

@@ -1,25 +1,25 @@
 -- Laws of authentication types and privilege levels.
 use mathlib.Core.Logic.{_↔_}
-use mathlib.Core.Path.{_≡_, refl}
+use mathlib.Core.Path.{_≡_, refl, sym, _∙_, ap}
 use mathlib.Core.Bool.{Bool, true, false}
 use mathlib.Core.List.{[], _∷_}
-use mathlib.Core.Option.{none, some}
+use mathlib.Core.Option.{Option, none, some}
 use Prim.Native.Nat.{ℕ, _≤_, _<_}
 use native.Mathlib.Omega.{arith}
 use borrow.Author.Tests.{ltb-true, ltb-false, lt-ltb, le-ltb}
-use lib.Dec.{ltb}
+use lib.Dec.{ltb, lit≤}
 use lib.ListN.{getD}
 use Rattle.base.specs.Choice.{if_then_else_, _=?_}
 use Rattle.base.specs.Field.{bits}
 use Rattle.base.specs.Named.{named}
-use Rattle.auth.specs.Auth.{authTypes, authTypeOf, authTypeValue, privileges, privilegeOf, privilegeValue, rank, strength}
+use Rattle.auth.specs.Auth.{authTypes, authTypeOf, authTypeValue, bestOf, privileges, privilegeOf, privilegeValue, rank, strength}
 use Rattle.auth.specs.declared.AuthType.{AuthType}
 use Rattle.auth.specs.declared.AuthType.the-variants.{None, MD2, MD5, Key}
 use Rattle.auth.specs.declared.Ordering.{Ordering}
 use Rattle.auth.specs.declared.Ordering.the-variants.{Less, Equal, Greater}
 use Rattle.auth.specs.declared.PrivilegeLevel.{PrivilegeLevel}
 use Rattle.auth.specs.declared.PrivilegeLevel.the-variants.{Callback, User, Operator, Administrator, OemProperietary}
-use Rattle.base.proofs.Named.{name-iff, nothing, unnamed}
+use Rattle.base.proofs.Named.{name-iff, unnamed}
 
 infix 15 _weaker_
 -- a number names exactly the type whose number it is
@@ -40,16 +40,8 @@ nibble-iff = name-iff privilegeValue privileges refl (elim [ Callback ↦ refl |
 pub privilege-iff : (n : ℕ) (l : PrivilegeLevel) → privilegeOf n ≡ some l ↔ privilegeValue l ≡ bits 0 4 n
 privilege-iff n l = nibble-iff (bits 0 4 n) l
 
-pub no-privilege : (n : ℕ) → (1 ≡ bits 0 4 n → ⊥) → (2 ≡ bits 0 4 n → ⊥) → (3 ≡ bits 0 4 n → ⊥) → (4 ≡ bits 0 4 n → ⊥) → (5 ≡ bits 0 4 n → ⊥) → privilegeOf n ≡ none
-no-privilege n a b c d e = unnamed privilegeValue privileges nibble-iff (bits 0 4 n) (elim [ Callback ↦ a | User ↦ b | Operator ↦ c | Administrator ↦ d | OemProperietary ↦ e ])
-
--- a level's number in a request, where the whole byte counts
-
-pub low-level : (n : ℕ) → n ≤ 15 → privilegeOf n ≡ named privileges n
-low-level n h = let z : bits 0 4 n ≡ n = omega arith in rw z
-
-pub high-level : (n : ℕ) → 15 < n → named privileges n ≡ none
-high-level n h = nothing privileges n (omega arith)
+pub no-privilege : (n : ℕ) → (1 ≡ n → ⊥) → (2 ≡ n → ⊥) → (3 ≡ n → ⊥) → (4 ≡ n → ⊥) → (5 ≡ n → ⊥) → named privileges n ≡ none
+no-privilege n a b c d e = unnamed privilegeValue privileges nibble-iff n (elim [ Callback ↦ a | User ↦ b | Operator ↦ c | Administrator ↦ d | OemProperietary ↦ e ])
 
 -- The strength order.
 
@@ -123,3 +115,59 @@ greater-iff a b = (go (ltb (rank a) (rank b)) (ltb (rank b) (rank a)) refl, λ e
     go true y q e = let z : _≡_ {A = ℕ} 0 1 = cc in absurd (omega arith)
     go false true q e = less b a .1 (ltb-true (rank b) (rank a) q)
     go false false q e = let z : _≡_ {A = ℕ} 0 1 = cc in absurd (omega arith)
+
+-- The strongest of those that are offered.
+
+-- is a type among those
+abbrev pub offered : Bool → Bool → Bool → Bool → AuthType → Bool
+offered key md5 md2 plain Key = key
+offered key md5 md2 plain MD5 = md5
+offered key md5 md2 plain MD2 = md2
+offered key md5 md2 plain None = plain
+
+-- it is among them, and none of them is stronger
+abbrev pub Strongest : Bool → Bool → Bool → Bool → AuthType → Type 0
+Strongest key md5 md2 plain a = (offered key md5 md2 plain a ≡ true) × ((b : AuthType) → offered key md5 md2 plain b ≡ true → a weaker b → ⊥)
+
+unlike : false ≡ true → ⊥
+unlike e = let z : _≡_ {A = ℕ} 0 1 = cc in omega arith
+
+some-not : {a : AuthType} → some a ≡ none → ⊥
+some-not e = let z : _≡_ {A = ℕ} 0 1 = cc in omega arith
+
+highest : (key md5 md2 plain : Bool) (a : AuthType) → bestOf key md5 md2 plain ≡ some a → (offered key md5 md2 plain a ≡ true) × ((b : AuthType) → offered key md5 md2 plain b ≡ true → rank b ≤ rank a)
+highest key true md2 plain a e = let z : MD5 ≡ a = cc in rw (← z) (refl, elim [ None ↦ λ o. lit≤ tt | MD2 ↦ λ o. lit≤ tt | MD5 ↦ λ o. lit≤ tt | Key ↦ λ o. lit≤ tt ])
+highest key false true plain a e = let z : MD2 ≡ a = cc in rw (← z) (refl, elim [ None ↦ λ o. lit≤ tt | MD2 ↦ λ o. lit≤ tt | MD5 ↦ λ o. absurd (unlike o) | Key ↦ λ o. lit≤ tt ])
+highest true false false plain a e = let z : Key ≡ a = cc in rw (← z) (refl, elim [ None ↦ λ o. lit≤ tt | MD2 ↦ λ o. absurd (unlike o) | MD5 ↦ λ o. absurd (unlike o) | Key ↦ λ o. lit≤ tt ])
+highest false false false true a e = let z : None ≡ a = cc in rw (← z) (refl, elim [ None ↦ λ o. lit≤ tt | MD2 ↦ λ o. absurd (unlike o) | MD5 ↦ λ o. absurd (unlike o) | Key ↦ λ o. absurd (unlike o) ])
+highest false false false false a e = absurd (some-not (sym e))
+
+-- There is none exactly where none is offered: "no type exactly when all four bits are clear".
+pub best-none : (key md5 md2 plain : Bool) → bestOf key md5 md2 plain ≡ none ↔ ((a : AuthType) → offered key md5 md2 plain a ≡ false)
+best-none key md5 md2 plain = (go key md5 md2 plain, λ h. simp (h MD5, h MD2, h Key, h None))
+  where
+    go : (key md5 md2 plain : Bool) → bestOf key md5 md2 plain ≡ none → (a : AuthType) → offered key md5 md2 plain a ≡ false
+    go key true md2 plain e = absurd (some-not e)
+    go key false true plain e = absurd (some-not e)
+    go true false false plain e = absurd (some-not e)
+    go false false false true e = absurd (some-not e)
+    go false false false false e = elim [ None ↦ refl | MD2 ↦ refl | MD5 ↦ refl | Key ↦ refl ]
+
+-- The best is exactly the strongest that is offered.
+pub best-iff : (key md5 md2 plain : Bool) (a : AuthType) → bestOf key md5 md2 plain ≡ some a ↔ Strongest key md5 md2 plain a
+best-iff key md5 md2 plain a = (is, λ s. go (bestOf key md5 md2 plain) refl s)
+  where
+    is : bestOf key md5 md2 plain ≡ some a → Strongest key md5 md2 plain a
+    is e = let (o, top) = highest key md5 md2 plain a e in (o, λ b p w. let h = top b p in let l = less a b .0 w in omega arith)
+
+    go : (o : Option AuthType) → bestOf key md5 md2 plain ≡ o → Strongest key md5 md2 plain a → o ≡ some a
+    go none p s = absurd (unlike (sym (best-none key md5 md2 plain .0 p a) ∙ s .0))
+    go (some b) p s =
+        let (o, top) = highest key md5 md2 plain b p in
+        let h = top a (s .0) in
+        let l : ltb (rank a) (rank b) ≡ false = no-less (ltb (rank a) (rank b)) λ e. s .1 b o (less a b .1 (ltb-true (rank a) (rank b) e)) in
+        ap some (equal-iff b a .0 (simp (le-ltb (rank b) (rank a) h, l)))
+      where
+        no-less : (x : Bool) → (x ≡ true → ⊥) → x ≡ false
+        no-less true h = absurd (h refl)
+        no-less false h = refl

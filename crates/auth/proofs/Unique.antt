@@ -38,8 +38,14 @@ auth-type-name-unique κs a ok z z′ w w′ q q′ = writer q q′
 pub auth-type-compare-strength-unique : Unique p.AuthType.compare_strength.Kinds.ps p.AuthType.compare_strength.Kinds.r p.AuthType.compare_strength.Reads.Asked p.AuthType.compare_strength.Reads.Learnt
 auth-type-compare-strength-unique κs a ok z z′ w w′ q q′ = (both q q′, refl)
 
+pub auth-type-best-of-unique : Unique p.AuthType.best_of.Kinds.ps p.AuthType.best_of.Kinds.r p.AuthType.best_of.Reads.Asked p.AuthType.best_of.Reads.Learnt
+auth-type-best-of-unique κs a ok z z′ w w′ q q′ = (auth-type-one z z′ (both q q′), refl)
+
 pub privilege-level-try-from-unique : Unique p.PrivilegeLevel.try_from.Kinds.ps p.PrivilegeLevel.try_from.Kinds.r p.PrivilegeLevel.try_from.Reads.Asked p.PrivilegeLevel.try_from.Reads.Learnt
 privilege-level-try-from-unique κs a ok z z′ w w′ q q′ = (privilege-one z z′ (both q q′), refl)
+
+pub privilege-level-numbered-unique : Unique p.PrivilegeLevel.numbered.Kinds.ps p.PrivilegeLevel.numbered.Kinds.r p.PrivilegeLevel.numbered.Reads.Asked p.PrivilegeLevel.numbered.Reads.Learnt
+privilege-level-numbered-unique κs a ok z z′ w w′ q q′ = (privilege-one z z′ (both q q′), refl)
 
 pub privilege-level-value-unique : Unique p.PrivilegeLevel.value.Kinds.ps p.PrivilegeLevel.value.Kinds.r p.PrivilegeLevel.value.Reads.Asked p.PrivilegeLevel.value.Reads.Learnt
 privilege-level-value-unique κs a ok z z′ w w′ q q′ = (both q q′, refl)

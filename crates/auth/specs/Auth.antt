@@ -1,5 +1,6 @@
 -- Authentication types, their strength, and privilege levels. Document 01: "AuthType 0, 1, 2, 4; strength order; PrivilegeLevel 1 to 5 from the low nibble".
 use Prim.Native.Nat.{ℕ}
+use mathlib.Core.Bool.{Bool}
 use mathlib.Core.List.{List, [], _∷_}
 use mathlib.Core.Option.{Option, none, some}
 use Rattle.base.specs.Choice.{if_then_else_, _<?_}
@@ -60,6 +61,14 @@ rank MD5 = 3
 -- "strength order": by ranks
 abbrev pub strength : AuthType → AuthType → Ordering
 strength a b = if rank a <? rank b then Less else if rank b <? rank a then Greater else Equal
+
+-- of the types that are offered, Key, MD5, MD2 and None, "the first advertised of MD5, MD2, Key, None"
+abbrev pub bestOf : Bool → Bool → Bool → Bool → Option AuthType
+bestOf key md5 md2 plain =
+    if md5 then some MD5 else
+    if md2 then some MD2 else
+    if key then some Key else
+    if plain then some None else none
 
 -- from 0 up, IPMI 2.0, 6.8
 abbrev pub privileges : List (Option PrivilegeLevel)

@@ -2,9 +2,9 @@
 use Prim.Native.Nat.{ℕ, _+_, _-_}
 use mathlib.Core.Bool.{Bool, true, false, not}
 use mathlib.Core.List.{List, [], _∷_}
-use mathlib.Core.Option.{Option, none, some}
+use mathlib.Core.Option.{Option}
 use lib.ListN.{length}
-use Rattle.auth.specs.Auth.{privileges, privilegeValue}
+use Rattle.auth.specs.Auth.{bestOf, privileges, privilegeValue}
 use Rattle.base.specs.Choice.{if_then_else_, _<?_, _=?_}
 use Rattle.base.specs.Connection.{channelOf, channelField}
 use Rattle.base.specs.Field.{byte, flag, flags}
@@ -13,7 +13,6 @@ use Rattle.base.specs.Outcome.{Outcome, accepted, refused, _>>=_, faultsAs}
 use Rattle.base.specs.Refusal.{refusal}
 use Rattle.base.specs.declared.connection.Channel.{Channel}
 use Rattle.auth.specs.declared.AuthType.{AuthType}
-use Rattle.auth.specs.declared.AuthType.the-variants.{None, MD2, MD5, Key}
 use Rattle.auth.specs.declared.PrivilegeLevel.{PrivilegeLevel}
 use Rattle.auth.specs.declared.get_channel_authentication_capabilities.ChannelAuthenticationCapabilities.{ChannelAuthenticationCapabilities}
 use Rattle.auth.specs.declared.get_channel_authentication_capabilities.CommandAnswer.{CommandAnswer}
@@ -122,13 +121,9 @@ noCapabilities =
       «oem_auxiliary_data» = 0;
     }
 
--- "the first advertised of MD5, MD2, Key, None"
+-- the strongest of the types that the answer offers
 abbrev pub bestAuth : ChannelAuthenticationCapabilities → Option AuthType
-bestAuth c =
-    if c .md5 then some MD5 else
-    if c .md2 then some MD2 else
-    if c .key then some Key else
-    if c .none then some None else none
+bestAuth c = bestOf (c .key) (c .md5) (c .md2) (c .none)
 
 -- "always writes the 8-byte form with bit 7 set"
 abbrev pub capabilitiesBytes : ChannelAuthenticationCapabilities → List ℕ

@@ -76,12 +76,7 @@ impl GetChannelAuthenticationCapabilities {
         let ChannelAnswer::Channel(channel) = Channel::new(first - 0x80) else {
             return CommandAnswer::Refused(Refusal::NotARequest);
         };
-        let second = request[1];
-        // The whole byte counts, and `try_from` reads its low nibble.
-        if 15 < second {
-            return CommandAnswer::Refused(Refusal::NotARequest);
-        }
-        let PrivilegeAnswer::Level(level) = PrivilegeLevel::try_from(second) else {
+        let PrivilegeAnswer::Level(level) = PrivilegeLevel::numbered(request[1]) else {
             return CommandAnswer::Refused(Refusal::NotARequest);
         };
         CommandAnswer::Command(Self::new(channel, level))
@@ -219,19 +214,7 @@ impl ChannelAuthenticationCapabilities {
     pub fn best_auth(self) -> AuthTypeAnswer
         ensures { λ r. ⌜ saidAuthType r ≡ accepted (bestAuth self) ⌝ }
     {
-        if self.md5 {
-            return AuthTypeAnswer::AuthType(AuthType::MD5);
-        }
-        if self.md2 {
-            return AuthTypeAnswer::AuthType(AuthType::MD2);
-        }
-        if self.key {
-            return AuthTypeAnswer::AuthType(AuthType::Key);
-        }
-        if self.none {
-            return AuthTypeAnswer::AuthType(AuthType::None);
-        }
-        AuthTypeAnswer::Nothing
+        AuthType::best_of(self.key, self.md5, self.md2, self.none)
     }
 
     // The response's data, always in the extended form.

@@ -1,6 +1,6 @@
 // The session's messages: the Rust's auth/mod.rs. `try_from` is its TryFrom<u8>, `value` its From for u8, `name` its Debug.
 ghost use mathlib.Core.Path.{_≡_};
-ghost use Rattle.auth.specs.Auth.{authTypeName, authTypeOf, authTypeValue, authTypes, privilegeOf, privilegeValue, rank, saidAuthType, saidPrivilege, strength};
+ghost use Rattle.auth.specs.Auth.{authTypeName, authTypeOf, authTypeValue, authTypes, bestOf, privilegeOf, privilegeValue, privileges, rank, saidAuthType, saidPrivilege, strength};
 ghost use Rattle.base.specs.Named.{named};
 ghost use Rattle.base.specs.Outcome.{accepted};
 ghost use Rattle.base.specs.Written.{Writes};
@@ -99,6 +99,25 @@ impl AuthType {
         }
         Ordering::Equal
     }
+
+    // The strongest of the types that are offered: `best-iff`.
+    pub fn best_of(key: bool, md5: bool, md2: bool, none: bool) -> AuthTypeAnswer
+        ensures { λ r. ⌜ saidAuthType r ≡ accepted (bestOf key md5 md2 none) ⌝ }
+    {
+        if md5 {
+            return AuthTypeAnswer::AuthType(AuthType::MD5);
+        }
+        if md2 {
+            return AuthTypeAnswer::AuthType(AuthType::MD2);
+        }
+        if key {
+            return AuthTypeAnswer::AuthType(AuthType::Key);
+        }
+        if none {
+            return AuthTypeAnswer::AuthType(AuthType::None);
+        }
+        AuthTypeAnswer::Nothing
+    }
 }
 
 pub enum PrivilegeLevel {
@@ -119,7 +138,14 @@ impl PrivilegeLevel {
     pub fn try_from(value: u8) -> PrivilegeAnswer
         ensures { λ r. ⌜ saidPrivilege r ≡ accepted (privilegeOf value) ⌝ }
     {
-        match bits(value, 0, 4) {
+        Self::numbered(bits(value, 0, 4))
+    }
+
+    // The whole number counts, as in what a command writes.
+    pub fn numbered(number: u8) -> PrivilegeAnswer
+        ensures { λ r. ⌜ saidPrivilege r ≡ accepted (named privileges number) ⌝ }
+    {
+        match number {
             1 => PrivilegeAnswer::Level(PrivilegeLevel::Callback),
             2 => PrivilegeAnswer::Level(PrivilegeLevel::User),
             3 => PrivilegeAnswer::Level(PrivilegeLevel::Operator),

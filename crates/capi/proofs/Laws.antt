@@ -1,14 +1,14 @@
 -- What an answer comes to as a number.
 use mathlib.Core.Path.{_≡_, refl, _∙_, ap}
 use mathlib.Core.List.{List, []}
-use mathlib.Core.Option.{Option, none, some}
+use mathlib.Core.Option.{Option, none}
 use Prim.Native.Nat.{ℕ, zero, suc}
 use native.Mathlib.Omega.{arith}
 use Rattle.base.specs.Named.{named}
 use Rattle.base.specs.Outcome.{Outcome, accepted, refused}
 use Rattle.base.specs.Refusal.{refusal}
 use Rattle.base.specs.Verdict.{Gives, saidVerdict, verdictOf}
-use Rattle.base.specs.Written.{Writes, saidWritten}
+use Rattle.base.specs.Written.{Writes, lengthOf, over, saidWritten, written}
 use Rattle.base.specs.declared.written.Written.{Written}
 use Rattle.base.specs.declared.refusal.Refusal.{Refusal}
 use Rattle.base.specs.declared.verdict.Verdict.{Verdict}
@@ -16,6 +16,7 @@ use Rattle.base.specs.declared.written.Written.the-variants as Written
 use Rattle.base.proofs.Named.{nothing}
 use Rattle.base.proofs.written.Laws.{fitting, refusing}
 use Rattle.capi.specs.Number.{Codes, CodesAny, Takes, code, noneBit, plain}
+use Rattle.capi.specs.Numbered.{sure}
 use Rattle.capi.specs.Requests.{kinds}
 use Rattle.collector.specs.declared.Collector.{Collector}
 
@@ -44,11 +45,13 @@ empty-coded {buffer} e = rw e (coding {w = Written.Length 0} refl (fitting [] bu
 
 -- a message that may be none
 
-pub any-none : {message : Option (List ℕ)} {n : ℕ} {buffer : List ℕ} → message ≡ none → n ≡ noneBit → CodesAny message n buffer buffer
+pub any-none : {message : Outcome (Option (List ℕ))} {n : ℕ} {buffer : List ℕ} → message ≡ accepted none → n ≡ noneBit → CodesAny message n buffer buffer
 any-none m e = rw m (record { answers = e; leaves = refl })
 
-pub any-some : {message : Option (List ℕ)} {bytes : List ℕ} {n : ℕ} {before after : List ℕ} → message ≡ some bytes → Codes (accepted bytes) n before after → CodesAny message n before after
-any-some m q = rw m (record { answers = q .answers; leaves = q .leaves })
+pub any-sure : {message : Outcome (Option (List ℕ))} (outcome : Outcome (List ℕ)) {n : ℕ} {before after : List ℕ} → message ≡ sure outcome → Codes outcome n before after → CodesAny message n before after
+unfolding written lengthOf over
+any-sure (accepted bytes) m q = rw m (record { answers = q .answers; leaves = q .leaves })
+any-sure (refused number carried) m q = rw m (record { answers = q .answers; leaves = q .leaves })
 
 -- a number of neither kind of settings
 pub no-kind : (n : ℕ) → (n ≡ 1 → ⊥) → (n ≡ 2 → ⊥) → named kinds n ≡ none

@@ -66,9 +66,19 @@ pub ghj-capabilities-unique : Unique p.ghj_capabilities.Kinds.ps p.ghj_capabilit
 ghj-capabilities-unique κs a ok z z′ w w′ q q′ = coder q q′
 
 -- a message or none, its buffer the second of two parameters
-pub any-coder : {message : Option (List ℕ)} {n n′ : ℕ} {before after after′ : List ℕ} → CodesAny message n before after → CodesAny message n′ before after′
+pub any-coder : {message : Outcome (Option (List ℕ))} {n n′ : ℕ} {before after after′ : List ℕ} → CodesAny message n before after → CodesAny message n′ before after′
     → (n ≡ n′) × (_≡_ {A = Unit {0} × (List ℕ × Unit {0})} (tt, (after, tt)) (tt, (after′, tt)))
 any-coder q q′ = (both (q .answers) (q′ .answers), ap (λ x. (tt, (x, tt))) (both (q .leaves) (q′ .leaves)))
+
+-- and the third of three
+pub any-coder3 : {message : Outcome (Option (List ℕ))} {n n′ : ℕ} {before after after′ : List ℕ} → CodesAny message n before after → CodesAny message n′ before after′
+    → (n ≡ n′) × (_≡_ {A = Unit {0} × (Unit {0} × (List ℕ × Unit {0}))} (tt, (tt, (after, tt))) (tt, (tt, (after′, tt))))
+any-coder3 q q′ = (both (q .answers) (q′ .answers), ap (λ x. (tt, (tt, (x, tt)))) (both (q .leaves) (q′ .leaves)))
+
+-- and the last of five
+pub any-coder5 : {message : Outcome (Option (List ℕ))} {n n′ : ℕ} {before after after′ : List ℕ} → CodesAny message n before after → CodesAny message n′ before after′
+    → (n ≡ n′) × (_≡_ {A = Unit {0} × (Unit {0} × (Unit {0} × (Unit {0} × (List ℕ × Unit {0}))))} (tt, (tt, (tt, (tt, (after, tt))))) (tt, (tt, (tt, (tt, (after′, tt))))))
+any-coder5 q q′ = (both (q .answers) (q′ .answers), ap (λ x. (tt, (tt, (tt, (tt, (x, tt)))))) (both (q .leaves) (q′ .leaves)))
 
 -- the buffer the last of five
 pub coder5 : {message : Outcome (List ℕ)} {n n′ : ℕ} {before after after′ : List ℕ} → Codes message n before after → Codes message n′ before after′
@@ -85,10 +95,10 @@ pub ghj-access-request-unique : Unique p.requests.ghj_access_request.Kinds.ps p.
 ghj-access-request-unique κs a ok z z′ w w′ q q′ = coder3 q q′
 
 pub ghj-capabilities-request-unique : Unique p.requests.ghj_capabilities_request.Kinds.ps p.requests.ghj_capabilities_request.Kinds.r p.requests.ghj_capabilities_request.Reads.Asked p.requests.ghj_capabilities_request.Reads.Learnt
-ghj-capabilities-request-unique κs a ok z z′ w w′ q q′ = coder3 q q′
+ghj-capabilities-request-unique κs a ok z z′ w w′ q q′ = any-coder3 q q′
 
 pub ghj-challenge-request-unique : Unique p.requests.ghj_challenge_request.Kinds.ps p.requests.ghj_challenge_request.Kinds.r p.requests.ghj_challenge_request.Reads.Asked p.requests.ghj_challenge_request.Reads.Learnt
-ghj-challenge-request-unique κs a ok z z′ w w′ q q′ = coder3 q q′
+ghj-challenge-request-unique κs a ok z z′ w w′ q q′ = any-coder3 q q′
 
 pub ghj-suites-request-unique : Unique p.requests.ghj_suites_request.Kinds.ps p.requests.ghj_suites_request.Kinds.r p.requests.ghj_suites_request.Reads.Asked p.requests.ghj_suites_request.Reads.Learnt
 ghj-suites-request-unique κs a ok z z′ w w′ q q′ = coder3 q q′
@@ -97,7 +107,7 @@ pub ghj-info-request-unique : Unique p.requests.ghj_info_request.Kinds.ps p.requ
 ghj-info-request-unique κs a ok z z′ w w′ q q′ = coder q q′
 
 pub ghj-activation-request-unique : Unique p.requests.ghj_activation_request.Kinds.ps p.requests.ghj_activation_request.Kinds.r p.requests.ghj_activation_request.Reads.Asked p.requests.ghj_activation_request.Reads.Learnt
-ghj-activation-request-unique κs a ok z z′ w w′ q q′ = coder5 q q′
+ghj-activation-request-unique κs a ok z z′ w w′ q q′ = any-coder5 q q′
 
 pub ghj-channel-text-unique : Unique p.display.ghj_channel_text.Kinds.ps p.display.ghj_channel_text.Kinds.r p.display.ghj_channel_text.Reads.Asked p.display.ghj_channel_text.Reads.Learnt
 ghj-channel-text-unique κs a ok z z′ w w′ q q′ = coder q q′
@@ -118,7 +128,7 @@ pub ghj-session-support-text-unique : Unique p.display.ghj_session_support_text.
 ghj-session-support-text-unique κs a ok z z′ w w′ q q′ = coder q q′
 
 pub ghj-auth-type-name-unique : Unique p.display.ghj_auth_type_name.Kinds.ps p.display.ghj_auth_type_name.Kinds.r p.display.ghj_auth_type_name.Reads.Asked p.display.ghj_auth_type_name.Reads.Learnt
-ghj-auth-type-name-unique κs a ok z z′ w w′ q q′ = coder q q′
+ghj-auth-type-name-unique κs a ok z z′ w w′ q q′ = any-coder q q′
 
 pub ghj-best-auth-unique : Unique p.strength.ghj_best_auth.Kinds.ps p.strength.ghj_best_auth.Kinds.r p.strength.ghj_best_auth.Reads.Asked p.strength.ghj_best_auth.Reads.Learnt
 ghj-best-auth-unique κs a ok z z′ w w′ q q′ = (both q q′, refl)

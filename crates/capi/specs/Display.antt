@@ -1,19 +1,11 @@
 -- The texts of what C gives by a number.
 use Prim.Native.Nat.{ℕ}
 use mathlib.Core.List.{List}
-use Rattle.auth.specs.Auth.{authTypeName}
 use Rattle.base.specs.Connection.{channelOf, channelText}
 use Rattle.base.specs.Outcome.{Outcome, accepted, _>>=_}
-use Rattle.capi.specs.Requests.{typeOf}
 
 -- "Display texts": of a channel that is given as a number, 6 where it is none
 abbrev pub channelName : ℕ → Outcome (List ℕ)
 channelName number = do
   channel ← channelOf number
   accepted (channelText channel)
-
--- the Rust's Debug of a type that is given as a number
-abbrev pub typeName : ℕ → Outcome (List ℕ)
-typeName authType = do
-  kind ← typeOf authType
-  accepted (authTypeName kind)

@@ -1,9 +1,10 @@
--- The number that a C function returns.
-use Prim.Native.Nat.{ℕ, _+_, _-_, _*_, _^_}
+-- The number that a C function returns, and what C reads from it.
+use Prim.Native.Nat.{ℕ, _+_, _-_, _*_, _/_, _%_, _^_}
+use mathlib.Core.Bool.{Bool, not}
 use mathlib.Core.Path.{_≡_}
 use mathlib.Core.List.{List}
 use mathlib.Core.Option.{Option, none, some}
-use Rattle.base.specs.Choice.{if_then_else_, _<?_}
+use Rattle.base.specs.Choice.{if_then_else_, _<?_, _=?_}
 use Rattle.base.specs.Field.{byte}
 use Rattle.base.specs.Outcome.{Outcome, accepted, refused}
 use Rattle.base.specs.Verdict.{recordOf}
@@ -11,9 +12,19 @@ use Rattle.base.specs.Written.{lengthOf, over, written}
 use Rattle.collector.specs.Collector.{Standing, complete, missing}
 use Rattle.collector.specs.declared.Collector.{Collector}
 
--- no slice is as long
+-- Three numbers that no count and no length is: no slice is as long.
+
+-- set in a refusal
 abbrev pub refusedBit : ℕ
 refusedBit = 2 ^ 63
+
+-- "answers none": GHJ_NONE
+abbrev pub noneBit : ℕ
+noneBit = 2 ^ 62
+
+-- set in a status that is not complete
+abbrev pub missingBit : ℕ
+missingBit = 2 ^ 61
 
 -- the most that fits between the top bit and the low byte. No list is as long: no machine has as much memory
 abbrev pub carriedLimit : ℕ
@@ -34,19 +45,11 @@ abbrev pub plain : {A : Type 0} → Outcome A → Outcome ℕ
 plain (accepted a) = accepted 0
 plain (refused number carried) = refused number carried
 
--- above every length of a list
-abbrev pub missingBit : ℕ
-missingBit = 2 ^ 16
-
 -- where a collector stands: its list's length, or the bit and the lowest unheard index
 abbrev pub standing : Outcome Standing → Outcome ℕ
 standing (accepted (complete n)) = accepted n
 standing (accepted (missing i)) = accepted (missingBit + i)
 standing (refused number carried) = refused number carried
-
--- above every number of a standing
-abbrev pub noneBit : ℕ
-noneBit = 2 ^ 17
 
 -- "answers none, which counts as accepted": the number of what there is, or the bit
 abbrev pub orNone : {A : Type 0} → (A → ℕ) → Outcome (Option A) → Outcome ℕ
@@ -67,16 +70,44 @@ pub record Codes (message : Outcome (List ℕ)) (number : ℕ) (before after : L
 -- what a C function that may answer none returns, and what it leaves in the buffer
 
 -- its number
-abbrev pub codeAny : Option (List ℕ) → List ℕ → ℕ
-codeAny (some bytes) buffer = code (lengthOf (written (accepted bytes) buffer))
-codeAny none buffer = noneBit
+abbrev pub codeAny : Outcome (Option (List ℕ)) → List ℕ → ℕ
+codeAny (accepted (some bytes)) buffer = code (lengthOf (written (accepted bytes) buffer))
+codeAny (accepted none) buffer = noneBit
+codeAny (refused number carried) buffer = code (refused number carried)
 
--- the buffer: none leaves it as it was
-abbrev pub overAny : List ℕ → Option (List ℕ) → List ℕ
-overAny buffer (some bytes) = over buffer (written (accepted bytes) buffer)
-overAny buffer none = buffer
+-- the buffer: none, like a refusal, leaves it as it was
+abbrev pub overAny : List ℕ → Outcome (Option (List ℕ)) → List ℕ
+overAny buffer (accepted (some bytes)) = over buffer (written (accepted bytes) buffer)
+overAny buffer (accepted none) = buffer
+overAny buffer (refused number carried) = buffer
 
 -- The promise of one that writes a message or answers none.
-pub record CodesAny (message : Option (List ℕ)) (number : ℕ) (before after : List ℕ) : Type 0 where
+pub record CodesAny (message : Outcome (Option (List ℕ))) (number : ℕ) (before after : List ℕ) : Type 0 where
   pub answers : number ≡ codeAny message before
   pub leaves : after ≡ overAny before message
+
+-- What C reads from a number: the macros of include/ghjalvestru.h, as they stand there. proofs/Reading.antt says that they give back what was coded.
+
+-- GHJ_IS_REFUSED: number >> 63 != 0
+abbrev pub isRefused : ℕ → Bool
+isRefused number = not (number / 2 ^ 63 =? 0)
+
+-- GHJ_REFUSAL: number & 0xFF
+abbrev pub refusalIn : ℕ → ℕ
+refusalIn number = number % 2 ^ 8
+
+-- GHJ_CARRIED: bits 62 to 8
+abbrev pub carriedIn : ℕ → ℕ
+carriedIn number = number % 2 ^ 63 / 2 ^ 8
+
+-- GHJ_NONE: 1 << 62
+abbrev pub isNone : ℕ → Bool
+isNone number = number =? 2 ^ 62
+
+-- GHJ_IS_MISSING: number >> 61 == 1
+abbrev pub isMissing : ℕ → Bool
+isMissing number = number / 2 ^ 61 =? 1
+
+-- GHJ_MISSING: number & 0xFF
+abbrev pub missingIn : ℕ → ℕ
+missingIn number = number % 2 ^ 8

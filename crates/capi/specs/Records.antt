@@ -32,13 +32,13 @@ suitesRecord response = do
 abbrev pub accessRecord : List ℕ → Outcome (List ℕ)
 accessRecord response = do
   access ← accessOf response
-  accessLayout access
+  accepted (accessLayout access)
 
 -- of a response of Get Channel Info
 abbrev pub infoRecord : List ℕ → Outcome (List ℕ)
 infoRecord response = do
   info ← infoOf response
-  infoLayout info
+  accepted (infoLayout info)
 
 -- of a response of Get Channel Authentication Capabilities
 abbrev pub capabilitiesRecord : List ℕ → Outcome (List ℕ)

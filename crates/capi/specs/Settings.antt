@@ -16,7 +16,7 @@ setAccessRequest number modePair limitPair access = do
 abbrev pub setAccessRecord : List ℕ → Outcome (List ℕ)
 setAccessRecord request = do
   command ← commandOf request
-  setAccessLayout command
+  accepted (setAccessLayout command)
 
 -- "the command applied". Applying looks at no channel and C gives none: any stands here, Primary
 abbrev pub setAccessApplied : ℕ → ℕ → List ℕ → List ℕ → Outcome (List ℕ)

@@ -1,9 +1,11 @@
 // Texts: the Rust's Display, and AuthType's Debug, at the start of out. No zero stands behind them.
 ghost use Rattle.base.specs.Outcome.{accepted};
-ghost use Rattle.capi.specs.Display.{channelName, typeName};
-ghost use Rattle.capi.specs.Number.{Codes};
+ghost use Rattle.capi.specs.Display.{channelName};
+ghost use Rattle.capi.specs.Number.{Codes, CodesAny};
+ghost use Rattle.capi.specs.Numbered.{typeName};
 ghost use Rattle.channel.specs.GetChannelAccess.{limitOf, limitText, modeOf, modeText};
 ghost use Rattle.media.specs.Media.{mediumOf, mediumText, protocolOf, protocolText, sessionOf, sessionText};
+use crate::NONE;
 use crate::code;
 use crate::refused;
 use auth::AuthType;
@@ -64,10 +66,10 @@ pub extern "C" fn ghj_session_support_text(support: u8, out: &mut [u8]) -> u64
 
 #[no_mangle]
 pub extern "C" fn ghj_auth_type_name(auth_type: u8, out: &mut [u8]) -> u64
-    ensures { λ r. ⌜ Codes (typeName «auth_type») r (now (out .entry)) (now (out .exit)) ⌝ }
+    ensures { λ r. ⌜ CodesAny (typeName «auth_type») r (now (out .entry)) (now (out .exit)) ⌝ }
 {
     let AuthTypeAnswer::AuthType(kind) = AuthType::numbered(auth_type) else {
-        return refused(Refusal::InvalidAuthType(auth_type));
+        return NONE;
     };
     code(kind.name(out))
 }

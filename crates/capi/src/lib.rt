@@ -40,14 +40,13 @@ pub mod strength;
 pub mod table;
 pub mod tagged_records;
 
-// A number above every length.
+// Three numbers that no count and no length is: no slice is as long.
 const REFUSED: u64 = 0x8000_0000_0000_0000;
 
-// Above every length of a list.
-const MISSING: u64 = 0x1_0000;
+// Document 01's "answers none".
+const NONE: u64 = 0x4000_0000_0000_0000;
 
-// Document 01's "answers none": above every number of a status.
-const NONE: u64 = 0x2_0000;
+const MISSING: u64 = 0x2000_0000_0000_0000;
 
 // The most that fits above a refusal's number: a place beyond it counts as this one.
 const CARRIED_LIMIT: usize = 0x7F_FFFF_FFFF_FFFF;
@@ -216,7 +215,7 @@ pub extern "C" fn ghj_access(response: &[u8], out: &mut [u8]) -> u64
     ensures { λ r. ⌜ Codes (accessRecord (now (response .entry))) r (now (out .entry)) (now (out .exit)) ⌝ }
 {
     match ChannelAccess::parse(response) {
-        AccessAnswer::Access(access) => code(access_layout(access, out)),
+        AccessAnswer::Access(access) => code(place(&access_layout(access), out)),
         AccessAnswer::NotEnoughData => refused(Refusal::NotEnoughData),
     }
 }
@@ -226,7 +225,7 @@ pub extern "C" fn ghj_info(response: &[u8], out: &mut [u8]) -> u64
     ensures { λ r. ⌜ Codes (infoRecord (now (response .entry))) r (now (out .entry)) (now (out .exit)) ⌝ }
 {
     match ChannelInfo::parse(response) {
-        InfoAnswer::Info(info) => code(info_layout(info, out)),
+        InfoAnswer::Info(info) => code(place(&info_layout(info), out)),
         InfoAnswer::NotEnoughData => refused(Refusal::NotEnoughData),
     }
 }
@@ -239,7 +238,7 @@ pub extern "C" fn ghj_capabilities(response: &[u8], out: &mut [u8]) -> u64
     let verdict = answer.verdict;
     let capabilities = answer.capabilities;
     match verdict {
-        Verdict::Accepted => code(capabilities_layout(capabilities, out)),
+        Verdict::Accepted => code(place(&capabilities_layout(capabilities), out)),
         Verdict::Refused(refusal) => refused(refusal),
     }
 }

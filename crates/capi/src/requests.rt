@@ -1,10 +1,8 @@
 // The data of each request, at the start of out. Arguments are looked at in their order, then the room.
-ghost use mathlib.Core.Path.{_≡_};
-ghost use Rattle.auth.specs.Auth.{privileges, saidPrivilege};
-ghost use Rattle.base.specs.Named.{named};
-ghost use Rattle.base.specs.Outcome.{accepted};
-ghost use Rattle.capi.specs.Number.{Codes};
-ghost use Rattle.capi.specs.Requests.{accessRequest, activationRequest, capabilitiesRequest, challengeRequest, infoRequest, suitesRequest};
+ghost use Rattle.capi.specs.Number.{Codes, CodesAny};
+ghost use Rattle.capi.specs.Numbered.{activationRequest, capabilitiesRequest, challengeRequest};
+ghost use Rattle.capi.specs.Requests.{accessRequest, infoRequest, suitesRequest};
+use crate::NONE;
 use crate::code;
 use crate::refused;
 use auth::AuthType;
@@ -49,35 +47,27 @@ pub extern "C" fn ghj_info_request(channel: u8, out: &mut [u8]) -> u64
     }
 }
 
-// The whole number counts, and `try_from` reads its low nibble.
-fn whole_privilege(number: u8) -> PrivilegeAnswer
-    ensures { λ r. ⌜ saidPrivilege r ≡ accepted (named privileges number) ⌝ }
-{
-    if 15 < number {
-        return PrivilegeAnswer::Nothing;
-    }
-    PrivilegeLevel::try_from(number)
-}
+// The number of a type or a level counts whole. One that names nothing answers none, and nothing is written.
 
 #[no_mangle]
 pub extern "C" fn ghj_capabilities_request(channel: u8, privilege: u8, out: &mut [u8]) -> u64
-    ensures { λ r. ⌜ Codes (capabilitiesRequest channel privilege) r (now (out .entry)) (now (out .exit)) ⌝ }
+    ensures { λ r. ⌜ CodesAny (capabilitiesRequest channel privilege) r (now (out .entry)) (now (out .exit)) ⌝ }
 {
     let ChannelAnswer::Channel(channel) = Channel::new(channel) else {
-        return refused(Refusal::NoChannel);
+        return refused(Refusal::NoChannel); // before a level that names nothing
     };
-    let PrivilegeAnswer::Level(level) = whole_privilege(privilege) else {
-        return refused(Refusal::InvalidPrivilegeLevel(privilege));
+    let PrivilegeAnswer::Level(level) = PrivilegeLevel::numbered(privilege) else {
+        return NONE;
     };
     code(GetChannelAuthenticationCapabilities::new(channel, level).write(out))
 }
 
 #[no_mangle]
 pub extern "C" fn ghj_challenge_request(auth_type: u8, name: &[u8], out: &mut [u8]) -> u64
-    ensures { λ r. ⌜ Codes (challengeRequest «auth_type» (now (name .entry))) r (now (out .entry)) (now (out .exit)) ⌝ }
+    ensures { λ r. ⌜ CodesAny (challengeRequest «auth_type» (now (name .entry))) r (now (out .entry)) (now (out .exit)) ⌝ }
 {
     let AuthTypeAnswer::AuthType(kind) = AuthType::numbered(auth_type) else {
-        return refused(Refusal::InvalidAuthType(auth_type));
+        return NONE;
     };
     let answer = GetSessionChallenge::new(kind, name);
     let verdict = answer.verdict;
@@ -96,13 +86,13 @@ pub extern "C" fn ghj_activation_request(
     sequence: u32,
     out: &mut [u8],
 ) -> u64
-    ensures { λ r. ⌜ Codes (activationRequest «auth_type» privilege (now (challenge .entry)) sequence) r (now (out .entry)) (now (out .exit)) ⌝ }
+    ensures { λ r. ⌜ CodesAny (activationRequest «auth_type» privilege (now (challenge .entry)) sequence) r (now (out .entry)) (now (out .exit)) ⌝ }
 {
     let AuthTypeAnswer::AuthType(kind) = AuthType::numbered(auth_type) else {
-        return refused(Refusal::InvalidAuthType(auth_type));
+        return NONE;
     };
-    let PrivilegeAnswer::Level(level) = whole_privilege(privilege) else {
-        return refused(Refusal::InvalidPrivilegeLevel(privilege));
+    let PrivilegeAnswer::Level(level) = PrivilegeLevel::numbered(privilege) else {
+        return NONE;
     };
     let command = ActivateSession {
         auth_type: kind,

@@ -5,6 +5,7 @@ use crate::code;
 use crate::refused;
 use base::connection::Channel;
 use base::refusal::Refusal;
+use base::written::place;
 use layouts::access_record;
 use layouts::set_access_layout;
 use layouts::settings_layout;
@@ -39,7 +40,7 @@ pub extern "C" fn ghj_set_access(request: &[u8], out: &mut [u8]) -> u64
     ensures { λ r. ⌜ Codes (setAccessRecord (now (request .entry))) r (now (out .entry)) (now (out .exit)) ⌝ }
 {
     match SetChannelAccess::read(request) {
-        CommandAnswer::Command(command) => code(set_access_layout(command, out)),
+        CommandAnswer::Command(command) => code(place(&set_access_layout(command), out)),
         CommandAnswer::Refused(refusal) => refused(refusal),
     }
 }
@@ -62,7 +63,7 @@ pub extern "C" fn ghj_set_access_apply(
         access: access_record(access),
     };
     match command.apply(settings_record(settings)) {
-        SettingsAnswer::Settings(after) => code(settings_layout(after, out)),
+        SettingsAnswer::Settings(after) => code(place(&settings_layout(after), out)),
         SettingsAnswer::NoForm => refused(Refusal::NoForm),
     }
 }

@@ -17,7 +17,7 @@ use suites::get_channel_cipher_suites::step_at;
 // The numbers of the suite's authentication, integrity and confidentiality.
 #[no_mangle]
 pub extern "C" fn ghj_suite_algorithms(suite: u8, out: &mut [u8]) -> u64
-    ensures { λ r. ⌜ CodesAny (algorithmsOf suite) r (now (out .entry)) (now (out .exit)) ⌝ }
+    ensures { λ r. ⌜ CodesAny (accepted (algorithmsOf suite)) r (now (out .entry)) (now (out .exit)) ⌝ }
 {
     let RowAnswer::Row(row) = CipherSuite(suite).into_suite() else {
         return NONE;

@@ -38,6 +38,9 @@ channel-access-write-unique κs a ok z z′ w w′ q q′ = writer q q′
 pub channel-access-mode-from-unique : Unique p.get_channel_access.ChannelAccessMode.from.Kinds.ps p.get_channel_access.ChannelAccessMode.from.Kinds.r p.get_channel_access.ChannelAccessMode.from.Reads.Asked p.get_channel_access.ChannelAccessMode.from.Reads.Learnt
 channel-access-mode-from-unique κs a ok z z′ w w′ q q′ = (both q q′, refl)
 
+pub channel-access-mode-value-unique : Unique p.get_channel_access.ChannelAccessMode.value.Kinds.ps p.get_channel_access.ChannelAccessMode.value.Kinds.r p.get_channel_access.ChannelAccessMode.value.Reads.Asked p.get_channel_access.ChannelAccessMode.value.Reads.Learnt
+channel-access-mode-value-unique κs a ok z z′ w w′ q q′ = (both q q′, refl)
+
 pub channel-access-mode-field-unique : Unique p.get_channel_access.ChannelAccessMode.field.Kinds.ps p.get_channel_access.ChannelAccessMode.field.Kinds.r p.get_channel_access.ChannelAccessMode.field.Reads.Asked p.get_channel_access.ChannelAccessMode.field.Reads.Learnt
 channel-access-mode-field-unique κs a ok z z′ w w′ q q′ = (field-one z z′ (both q q′), refl)
 
@@ -46,6 +49,9 @@ channel-access-mode-text-unique κs a ok z z′ w w′ q q′ = writer q q′
 
 pub channel-privilege-level-from-unique : Unique p.get_channel_access.ChannelPrivilegeLevel.from.Kinds.ps p.get_channel_access.ChannelPrivilegeLevel.from.Kinds.r p.get_channel_access.ChannelPrivilegeLevel.from.Reads.Asked p.get_channel_access.ChannelPrivilegeLevel.from.Reads.Learnt
 channel-privilege-level-from-unique κs a ok z z′ w w′ q q′ = (both q q′, refl)
+
+pub channel-privilege-level-value-unique : Unique p.get_channel_access.ChannelPrivilegeLevel.value.Kinds.ps p.get_channel_access.ChannelPrivilegeLevel.value.Kinds.r p.get_channel_access.ChannelPrivilegeLevel.value.Reads.Asked p.get_channel_access.ChannelPrivilegeLevel.value.Reads.Learnt
+channel-privilege-level-value-unique κs a ok z z′ w w′ q q′ = (both q q′, refl)
 
 pub channel-privilege-level-field-unique : Unique p.get_channel_access.ChannelPrivilegeLevel.field.Kinds.ps p.get_channel_access.ChannelPrivilegeLevel.field.Kinds.r p.get_channel_access.ChannelPrivilegeLevel.field.Reads.Asked p.get_channel_access.ChannelPrivilegeLevel.field.Reads.Learnt
 channel-privilege-level-field-unique κs a ok z z′ w w′ q q′ = (field-one z z′ (both q q′), refl)

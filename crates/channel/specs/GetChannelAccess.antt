@@ -106,22 +106,40 @@ accessOf response =
     if length response <? 2 then refused 1 [] else
     accepted (accessFields (byte 0 response) (byte 1 response))
 
+-- a mode's number: an unknown one's is the number that it holds
+abbrev pub modeValue : ChannelAccessMode → ℕ
+modeValue Mode.Disabled = 0
+modeValue Mode.PreBootOnly = 1
+modeValue Mode.AlwaysAvailable = 2
+modeValue Mode.Shared = 3
+modeValue (Mode.Unknown n) = n
+
 -- what the field of a message has for a mode: 9 where no reading of the field gives it
 abbrev pub modeField : ChannelAccessMode → Outcome ℕ
-modeField Mode.Disabled = accepted 0
-modeField Mode.PreBootOnly = accepted 1
-modeField Mode.AlwaysAvailable = accepted 2
-modeField Mode.Shared = accepted 3
+modeField Mode.Disabled = accepted (modeValue Mode.Disabled)
+modeField Mode.PreBootOnly = accepted (modeValue Mode.PreBootOnly)
+modeField Mode.AlwaysAvailable = accepted (modeValue Mode.AlwaysAvailable)
+modeField Mode.Shared = accepted (modeValue Mode.Shared)
 modeField (Mode.Unknown n) = within 4 7 n
+
+-- a limit's number: an unknown one's is the number that it holds
+abbrev pub limitValue : ChannelPrivilegeLevel → ℕ
+limitValue Level.Reserved = 0
+limitValue Level.Callback = 1
+limitValue Level.User = 2
+limitValue Level.Operator = 3
+limitValue Level.Administrator = 4
+limitValue Level.Oem = 5
+limitValue (Level.Unknown n) = n
 
 -- the same for a limit
 abbrev pub limitField : ChannelPrivilegeLevel → Outcome ℕ
-limitField Level.Reserved = accepted 0
-limitField Level.Callback = accepted 1
-limitField Level.User = accepted 2
-limitField Level.Operator = accepted 3
-limitField Level.Administrator = accepted 4
-limitField Level.Oem = accepted 5
+limitField Level.Reserved = accepted (limitValue Level.Reserved)
+limitField Level.Callback = accepted (limitValue Level.Callback)
+limitField Level.User = accepted (limitValue Level.User)
+limitField Level.Operator = accepted (limitValue Level.Operator)
+limitField Level.Administrator = accepted (limitValue Level.Administrator)
+limitField Level.Oem = accepted (limitValue Level.Oem)
 limitField (Level.Unknown n) = within 6 15 n
 
 -- the fields at their bits; 9 for a mode or limit that no reader gives

@@ -1,7 +1,7 @@
 // Get Channel Access, App 41h: IPMI 2.0, Table 22-28; the Rust's get_channel_access.rs. `text` is its Display.
 ghost use mathlib.Core.Path.{_≡_};
 ghost use Rattle.base.specs.Field.{saidField};
-ghost use Rattle.channel.specs.GetChannelAccess.{accessBytes, accessOf, command, commandBytes, commandFor, commandOf, isDisabled, limitField, limitOf, limitText, modeField, modeOf, modeText, saidAccess, saidCommand, typeByte};
+ghost use Rattle.channel.specs.GetChannelAccess.{accessBytes, accessOf, command, commandBytes, commandFor, commandOf, isDisabled, limitField, limitOf, limitText, limitValue, modeField, modeOf, modeText, modeValue, saidAccess, saidCommand, typeByte};
 ghost use Rattle.base.specs.Outcome.{accepted};
 ghost use Rattle.base.specs.Written.{Writes};
 use base::connection::Channel;
@@ -190,15 +190,25 @@ impl ChannelAccessMode {
         }
     }
 
+    pub fn value(self) -> u8
+        ensures { λ r. ⌜ r ≡ modeValue self ⌝ }
+    {
+        match self {
+            ChannelAccessMode::Disabled => 0,
+            ChannelAccessMode::PreBootOnly => 1,
+            ChannelAccessMode::AlwaysAvailable => 2,
+            ChannelAccessMode::Shared => 3,
+            ChannelAccessMode::Unknown(value) => value,
+        }
+    }
+
+    // The mode's number in a message.
     pub fn field(self) -> FieldAnswer
         ensures { λ r. ⌜ saidField r ≡ modeField self ⌝ }
     {
         match self {
-            ChannelAccessMode::Disabled => FieldAnswer::Number(0),
-            ChannelAccessMode::PreBootOnly => FieldAnswer::Number(1),
-            ChannelAccessMode::AlwaysAvailable => FieldAnswer::Number(2),
-            ChannelAccessMode::Shared => FieldAnswer::Number(3),
             ChannelAccessMode::Unknown(value) => within(value, 4, 7),
+            _ => FieldAnswer::Number(self.value()),
         }
     }
 
@@ -240,17 +250,27 @@ impl ChannelPrivilegeLevel {
         }
     }
 
+    pub fn value(self) -> u8
+        ensures { λ r. ⌜ r ≡ limitValue self ⌝ }
+    {
+        match self {
+            ChannelPrivilegeLevel::Reserved => 0,
+            ChannelPrivilegeLevel::Callback => 1,
+            ChannelPrivilegeLevel::User => 2,
+            ChannelPrivilegeLevel::Operator => 3,
+            ChannelPrivilegeLevel::Administrator => 4,
+            ChannelPrivilegeLevel::Oem => 5,
+            ChannelPrivilegeLevel::Unknown(value) => value,
+        }
+    }
+
+    // The limit's number in a message.
     pub fn field(self) -> FieldAnswer
         ensures { λ r. ⌜ saidField r ≡ limitField self ⌝ }
     {
         match self {
-            ChannelPrivilegeLevel::Reserved => FieldAnswer::Number(0),
-            ChannelPrivilegeLevel::Callback => FieldAnswer::Number(1),
-            ChannelPrivilegeLevel::User => FieldAnswer::Number(2),
-            ChannelPrivilegeLevel::Operator => FieldAnswer::Number(3),
-            ChannelPrivilegeLevel::Administrator => FieldAnswer::Number(4),
-            ChannelPrivilegeLevel::Oem => FieldAnswer::Number(5),
             ChannelPrivilegeLevel::Unknown(value) => within(value, 6, 15),
+            _ => FieldAnswer::Number(self.value()),
         }
     }
 

@@ -6,28 +6,20 @@ use mathlib.Core.List.{List, [], _∷_, _++_}
 use lib.ListN.{drop}
 use Rattle.auth.specs.declared.get_channel_authentication_capabilities.ChannelAuthenticationCapabilities.{ChannelAuthenticationCapabilities}
 use Rattle.base.specs.Choice.{_=?_}
-use Rattle.base.specs.Connection.{channelField}
+use Rattle.base.specs.Connection.{valueOf}
 use Rattle.base.specs.Field.{byte}
 use Rattle.base.specs.Little.{littleBytes}
-use Rattle.base.specs.Outcome.{Outcome, accepted, _>>=_}
-use Rattle.channel.specs.GetChannelAccess.{limitField, limitOf, modeField, modeOf}
+use Rattle.channel.specs.GetChannelAccess.{limitOf, limitValue, modeOf, modeValue}
 use Rattle.channel.specs.declared.get_channel_access.ChannelAccess.{ChannelAccess}
-use Rattle.channel.specs.declared.get_channel_access.ChannelAccessMode.{ChannelAccessMode}
-use Rattle.channel.specs.declared.get_channel_access.ChannelAccessMode.the-variants as Mode
-use Rattle.channel.specs.declared.get_channel_access.ChannelPrivilegeLevel.{ChannelPrivilegeLevel}
-use Rattle.channel.specs.declared.get_channel_access.ChannelPrivilegeLevel.the-variants as Level
-use Rattle.setting.specs.SetChannelAccess.{pairField}
+use Rattle.setting.specs.SetChannelAccess.{pairValue}
 use Rattle.setting.specs.declared.set_channel_access.ChannelSettings.{ChannelSettings}
 use Rattle.setting.specs.declared.set_channel_access.SetChannelAccess.{SetChannelAccess}
-use Rattle.media.specs.Media.{mediumField, protocolField, sessionField}
+use Rattle.media.specs.Media.{mediumValue, protocolValue, sessionValue}
 use Rattle.info.specs.declared.get_channel_info.ChannelInfo.{ChannelInfo}
 
 -- mode; alerting, per-message and user-level authentication DISABLED, 0 or 1 each; limit
-abbrev pub accessLayout : ChannelAccess → Outcome (List ℕ)
-accessLayout a = do
-  mode ← modeField (a .«access_mode»)
-  limit ← limitField (a .«privilege_level_limit»)
-  accepted (mode ∷ boolByte (a .«alerting_disabled») ∷ boolByte (a .«per_msg_auth_disabled») ∷ boolByte (a .«user_level_auth_disabled») ∷ limit ∷ [])
+abbrev pub accessLayout : ChannelAccess → List ℕ
+accessLayout a = modeValue (a .«access_mode») ∷ boolByte (a .«alerting_disabled») ∷ boolByte (a .«per_msg_auth_disabled») ∷ boolByte (a .«user_level_auth_disabled») ∷ limitValue (a .«privilege_level_limit») ∷ []
 
 -- a flag that C gives: any number but 0 sets it
 abbrev pub isSet : ℕ → Bool
@@ -48,53 +40,23 @@ accessFrom mode alerting perMessage userLevel limit =
 abbrev pub accessRecord : List ℕ → ChannelAccess
 accessRecord s = accessFrom (byte 0 s) (byte 1 s) (byte 2 s) (byte 3 s) (byte 4 s)
 
--- channel; the pairs of mode and limit, "00 leave, 01 set non-volatile, 10 set volatile"; the access record. 9 where one has no form
-abbrev pub setAccessLayout : SetChannelAccess → Outcome (List ℕ)
-setAccessLayout c = do
-  channel ← channelField (c .channel)
-  modePair ← pairField (c .«mode_pair»)
-  limitPair ← pairField (c .«limit_pair»)
-  access ← accessLayout (c .access)
-  accepted (channel ∷ modePair ∷ limitPair ∷ access)
-
--- a mode's number, of any mode: an unknown one is the number that it holds
-abbrev pub modeNumber : ChannelAccessMode → ℕ
-modeNumber Mode.Disabled = 0
-modeNumber Mode.PreBootOnly = 1
-modeNumber Mode.AlwaysAvailable = 2
-modeNumber Mode.Shared = 3
-modeNumber (Mode.Unknown n) = n
-
--- the same for a limit
-abbrev pub limitNumber : ChannelPrivilegeLevel → ℕ
-limitNumber Level.Reserved = 0
-limitNumber Level.Callback = 1
-limitNumber Level.User = 2
-limitNumber Level.Operator = 3
-limitNumber Level.Administrator = 4
-limitNumber Level.Oem = 5
-limitNumber (Level.Unknown n) = n
-
--- the access record of any access, also of one that has no form in a message
-abbrev pub accessNumbers : ChannelAccess → List ℕ
-accessNumbers a = modeNumber (a .«access_mode») ∷ boolByte (a .«alerting_disabled») ∷ boolByte (a .«per_msg_auth_disabled») ∷ boolByte (a .«user_level_auth_disabled») ∷ limitNumber (a .«privilege_level_limit») ∷ []
+-- channel; the pairs of mode and limit, "00 leave, 01 set non-volatile, 10 set volatile"; the access record
+abbrev pub setAccessLayout : SetChannelAccess → List ℕ
+setAccessLayout c = valueOf (c .channel) ∷ pairValue (c .«mode_pair») ∷ pairValue (c .«limit_pair») ∷ accessLayout (c .access)
 
 -- "one channel's two settings": the record of the non-volatile ones, then that of the volatile ones
 abbrev pub settingsLayout : ChannelSettings → List ℕ
-settingsLayout s = accessNumbers (s .«non_volatile») ++ accessNumbers (s .volatile)
+settingsLayout s = accessLayout (s .«non_volatile») ++ accessLayout (s .volatile)
 
 -- the settings back, of any ten bytes
 abbrev pub settingsRecord : List ℕ → ChannelSettings
 settingsRecord bytes = record { «non_volatile» = accessRecord bytes; volatile = accessRecord (drop 5 bytes) }
 
 -- channel; medium; protocol; session support; active sessions; vendor, four bytes, low first; two auxiliary bytes
-abbrev pub infoLayout : ChannelInfo → Outcome (List ℕ)
-infoLayout i = do
-  channel ← channelField (i .channel)
-  medium ← mediumField (i .«medium_type»)
-  protocol ← protocolField (i .«protocol_type»)
-  session ← sessionField (i .«session_support»)
-  accepted (channel ∷ medium ∷ protocol ∷ session ∷ i .«active_sessions» ∷ littleBytes 4 (i .«vendor_id») ++ i .«aux_info» .byte1 ∷ i .«aux_info» .byte2 ∷ [])
+abbrev pub infoLayout : ChannelInfo → List ℕ
+infoLayout i =
+    valueOf (i .channel) ∷ mediumValue (i .«medium_type») ∷ protocolValue (i .«protocol_type») ∷ sessionValue (i .«session_support») ∷ i .«active_sessions»
+    ∷ littleBytes 4 (i .«vendor_id») ++ i .«aux_info» .byte1 ∷ i .«aux_info» .byte2 ∷ []
 
 -- channel; OEM, Key, MD5, MD2, none; KG status, per-message, user-level, non-null names, null names, anonymous; v2.0, v1.5; OEM id, three bytes; auxiliary
 abbrev pub capabilitiesLayout : ChannelAuthenticationCapabilities → List ℕ

@@ -37,46 +37,88 @@ sessions = Session.Sessionless ∷ Session.SingleSession ∷ Session.MultiSessio
 abbrev pub sessionOf : ℕ → ChannelSessionSupport
 sessionOf n = getD sessions n (Session.Reserved n)
 
--- what the field of a message has for each: 9 where no reading of the field gives it
+-- the number of each: an OEM or reserved one's is the number that it holds, "keeps its number inside the channel record"
 
 -- of a medium, by Table 6-3
+abbrev pub mediumValue : ChannelMediumType → ℕ
+mediumValue Medium.Reserved = 0
+mediumValue Medium.Ipmb = 1
+mediumValue Medium.IcmbV1_0 = 2
+mediumValue Medium.IcmbV0_9 = 3
+mediumValue Medium.Lan802_3 = 4
+mediumValue Medium.AsynchSerialModem = 5
+mediumValue Medium.OtherLan = 6
+mediumValue Medium.PciSmbus = 7
+mediumValue Medium.SmbusV1_0 = 8
+mediumValue Medium.SmbusV2_0 = 9
+mediumValue Medium.Usb1X = 10
+mediumValue Medium.Usb2X = 11
+mediumValue Medium.SystemInterface = 12
+mediumValue (Medium.Oem n) = n
+mediumValue (Medium.ReservedValue n) = n
+
+-- of a protocol, by Table 6-2
+abbrev pub protocolValue : ChannelProtocolType → ℕ
+protocolValue Protocol.Reserved = 0
+protocolValue Protocol.IpmbV1_0 = 1
+protocolValue Protocol.IcmbV1_0 = 2
+protocolValue Protocol.IpmiSmbus = 4
+protocolValue Protocol.Kcs = 5
+protocolValue Protocol.Smic = 6
+protocolValue Protocol.Bt10 = 7
+protocolValue Protocol.Bt15 = 8
+protocolValue Protocol.TerminalMode = 9
+protocolValue (Protocol.Oem n) = n
+protocolValue (Protocol.ReservedValue n) = n
+
+-- of session support, by Table 22-29
+abbrev pub sessionValue : ChannelSessionSupport → ℕ
+sessionValue Session.Sessionless = 0
+sessionValue Session.SingleSession = 1
+sessionValue Session.MultiSession = 2
+sessionValue Session.SessionBased = 3
+sessionValue (Session.Reserved n) = n
+
+-- what the field of a message has for each: 9 where no reading of the field gives it
+
+-- of a medium
 abbrev pub mediumField : ChannelMediumType → Outcome ℕ
-mediumField Medium.Reserved = accepted 0
-mediumField Medium.Ipmb = accepted 1
-mediumField Medium.IcmbV1_0 = accepted 2
-mediumField Medium.IcmbV0_9 = accepted 3
-mediumField Medium.Lan802_3 = accepted 4
-mediumField Medium.AsynchSerialModem = accepted 5
-mediumField Medium.OtherLan = accepted 6
-mediumField Medium.PciSmbus = accepted 7
-mediumField Medium.SmbusV1_0 = accepted 8
-mediumField Medium.SmbusV2_0 = accepted 9
-mediumField Medium.Usb1X = accepted 10
-mediumField Medium.Usb2X = accepted 11
-mediumField Medium.SystemInterface = accepted 12
+mediumField Medium.Reserved = accepted (mediumValue Medium.Reserved)
+mediumField Medium.Ipmb = accepted (mediumValue Medium.Ipmb)
+mediumField Medium.IcmbV1_0 = accepted (mediumValue Medium.IcmbV1_0)
+mediumField Medium.IcmbV0_9 = accepted (mediumValue Medium.IcmbV0_9)
+mediumField Medium.Lan802_3 = accepted (mediumValue Medium.Lan802_3)
+mediumField Medium.AsynchSerialModem = accepted (mediumValue Medium.AsynchSerialModem)
+mediumField Medium.OtherLan = accepted (mediumValue Medium.OtherLan)
+mediumField Medium.PciSmbus = accepted (mediumValue Medium.PciSmbus)
+mediumField Medium.SmbusV1_0 = accepted (mediumValue Medium.SmbusV1_0)
+mediumField Medium.SmbusV2_0 = accepted (mediumValue Medium.SmbusV2_0)
+mediumField Medium.Usb1X = accepted (mediumValue Medium.Usb1X)
+mediumField Medium.Usb2X = accepted (mediumValue Medium.Usb2X)
+mediumField Medium.SystemInterface = accepted (mediumValue Medium.SystemInterface)
 mediumField (Medium.Oem n) = within 0x60 0x7F n
 mediumField (Medium.ReservedValue n) = within 0x0D 0x5F n
 
--- of a protocol, by Table 6-2
+-- of a protocol
 abbrev pub protocolField : ChannelProtocolType → Outcome ℕ
-protocolField Protocol.Reserved = accepted 0
-protocolField Protocol.IpmbV1_0 = accepted 1
-protocolField Protocol.IcmbV1_0 = accepted 2
-protocolField Protocol.IpmiSmbus = accepted 4
-protocolField Protocol.Kcs = accepted 5
-protocolField Protocol.Smic = accepted 6
-protocolField Protocol.Bt10 = accepted 7
-protocolField Protocol.Bt15 = accepted 8
-protocolField Protocol.TerminalMode = accepted 9
+protocolField Protocol.Reserved = accepted (protocolValue Protocol.Reserved)
+protocolField Protocol.IpmbV1_0 = accepted (protocolValue Protocol.IpmbV1_0)
+protocolField Protocol.IcmbV1_0 = accepted (protocolValue Protocol.IcmbV1_0)
+protocolField Protocol.IpmiSmbus = accepted (protocolValue Protocol.IpmiSmbus)
+protocolField Protocol.Kcs = accepted (protocolValue Protocol.Kcs)
+protocolField Protocol.Smic = accepted (protocolValue Protocol.Smic)
+protocolField Protocol.Bt10 = accepted (protocolValue Protocol.Bt10)
+protocolField Protocol.Bt15 = accepted (protocolValue Protocol.Bt15)
+protocolField Protocol.TerminalMode = accepted (protocolValue Protocol.TerminalMode)
 protocolField (Protocol.Oem n) = within 0x1C 0x1F n
 protocolField (Protocol.ReservedValue n) = if n =? 3 then accepted 3 else within 0x0A 0x1B n
 
--- of session support, by Table 22-29
+-- of session support
 abbrev pub sessionField : ChannelSessionSupport → Outcome ℕ
-sessionField Session.Sessionless = accepted 0
-sessionField Session.SingleSession = accepted 1
-sessionField Session.MultiSession = accepted 2
-sessionField Session.SessionBased = accepted 3
+sessionField Session.Sessionless = accepted (sessionValue Session.Sessionless)
+sessionField Session.SingleSession = accepted (sessionValue Session.SingleSession)
+sessionField Session.MultiSession = accepted (sessionValue Session.MultiSession)
+sessionField Session.SessionBased = accepted (sessionValue Session.SessionBased)
 sessionField (Session.Reserved n) = refused 9 []
 
 -- the Rust's Display

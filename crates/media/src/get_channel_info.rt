@@ -1,6 +1,6 @@
 // The types of the Rust's get_channel_info.rs: IPMI 2.0, Tables 6-2, 6-3 and 22-29. `from` is its From<u8>, `text` its Display.
 ghost use mathlib.Core.Path.{_≡_};
-ghost use Rattle.media.specs.Media.{mediumField, mediumOf, mediumText, protocolField, protocolOf, protocolText, sessionField, sessionOf, sessionText};
+ghost use Rattle.media.specs.Media.{mediumField, mediumOf, mediumText, mediumValue, protocolField, protocolOf, protocolText, protocolValue, sessionField, sessionOf, sessionText, sessionValue};
 ghost use Rattle.base.specs.Field.{saidField};
 ghost use Rattle.base.specs.Outcome.{accepted};
 ghost use Rattle.base.specs.Written.{Writes};
@@ -52,25 +52,36 @@ impl ChannelMediumType {
         }
     }
 
+    pub fn value(self) -> u8
+        ensures { λ r. ⌜ r ≡ mediumValue self ⌝ }
+    {
+        match self {
+            ChannelMediumType::Reserved => 0,
+            ChannelMediumType::Ipmb => 1,
+            ChannelMediumType::IcmbV1_0 => 2,
+            ChannelMediumType::IcmbV0_9 => 3,
+            ChannelMediumType::Lan802_3 => 4,
+            ChannelMediumType::AsynchSerialModem => 5,
+            ChannelMediumType::OtherLan => 6,
+            ChannelMediumType::PciSmbus => 7,
+            ChannelMediumType::SmbusV1_0 => 8,
+            ChannelMediumType::SmbusV2_0 => 9,
+            ChannelMediumType::Usb1X => 10,
+            ChannelMediumType::Usb2X => 11,
+            ChannelMediumType::SystemInterface => 12,
+            ChannelMediumType::Oem(value) => value,
+            ChannelMediumType::ReservedValue(value) => value,
+        }
+    }
+
+    // Its number in a message.
     pub fn field(self) -> FieldAnswer
         ensures { λ r. ⌜ saidField r ≡ mediumField self ⌝ }
     {
         match self {
-            ChannelMediumType::Reserved => FieldAnswer::Number(0),
-            ChannelMediumType::Ipmb => FieldAnswer::Number(1),
-            ChannelMediumType::IcmbV1_0 => FieldAnswer::Number(2),
-            ChannelMediumType::IcmbV0_9 => FieldAnswer::Number(3),
-            ChannelMediumType::Lan802_3 => FieldAnswer::Number(4),
-            ChannelMediumType::AsynchSerialModem => FieldAnswer::Number(5),
-            ChannelMediumType::OtherLan => FieldAnswer::Number(6),
-            ChannelMediumType::PciSmbus => FieldAnswer::Number(7),
-            ChannelMediumType::SmbusV1_0 => FieldAnswer::Number(8),
-            ChannelMediumType::SmbusV2_0 => FieldAnswer::Number(9),
-            ChannelMediumType::Usb1X => FieldAnswer::Number(10),
-            ChannelMediumType::Usb2X => FieldAnswer::Number(11),
-            ChannelMediumType::SystemInterface => FieldAnswer::Number(12),
             ChannelMediumType::Oem(value) => within(value, 0x60, 0x7F),
             ChannelMediumType::ReservedValue(value) => within(value, 0x0D, 0x5F),
+            _ => FieldAnswer::Number(self.value()),
         }
     }
 
@@ -132,24 +143,35 @@ impl ChannelProtocolType {
         }
     }
 
+    pub fn value(self) -> u8
+        ensures { λ r. ⌜ r ≡ protocolValue self ⌝ }
+    {
+        match self {
+            ChannelProtocolType::Reserved => 0,
+            ChannelProtocolType::IpmbV1_0 => 1,
+            ChannelProtocolType::IcmbV1_0 => 2,
+            ChannelProtocolType::IpmiSmbus => 4,
+            ChannelProtocolType::Kcs => 5,
+            ChannelProtocolType::Smic => 6,
+            ChannelProtocolType::Bt10 => 7,
+            ChannelProtocolType::Bt15 => 8,
+            ChannelProtocolType::TerminalMode => 9,
+            ChannelProtocolType::Oem(value) => value,
+            ChannelProtocolType::ReservedValue(value) => value,
+        }
+    }
+
+    // Its number in a message.
     pub fn field(self) -> FieldAnswer
         ensures { λ r. ⌜ saidField r ≡ protocolField self ⌝ }
     {
         match self {
-            ChannelProtocolType::Reserved => FieldAnswer::Number(0),
-            ChannelProtocolType::IpmbV1_0 => FieldAnswer::Number(1),
-            ChannelProtocolType::IcmbV1_0 => FieldAnswer::Number(2),
-            ChannelProtocolType::IpmiSmbus => FieldAnswer::Number(4),
-            ChannelProtocolType::Kcs => FieldAnswer::Number(5),
-            ChannelProtocolType::Smic => FieldAnswer::Number(6),
-            ChannelProtocolType::Bt10 => FieldAnswer::Number(7),
-            ChannelProtocolType::Bt15 => FieldAnswer::Number(8),
-            ChannelProtocolType::TerminalMode => FieldAnswer::Number(9),
             ChannelProtocolType::Oem(value) => within(value, 0x1C, 0x1F),
             ChannelProtocolType::ReservedValue(value) => match value {
                 3 => FieldAnswer::Number(3),
                 _ => within(value, 0x0A, 0x1B),
             },
+            _ => FieldAnswer::Number(self.value()),
         }
     }
 
@@ -194,15 +216,25 @@ impl ChannelSessionSupport {
         }
     }
 
+    pub fn value(self) -> u8
+        ensures { λ r. ⌜ r ≡ sessionValue self ⌝ }
+    {
+        match self {
+            ChannelSessionSupport::Sessionless => 0,
+            ChannelSessionSupport::SingleSession => 1,
+            ChannelSessionSupport::MultiSession => 2,
+            ChannelSessionSupport::SessionBased => 3,
+            ChannelSessionSupport::Reserved(value) => value,
+        }
+    }
+
+    // Its number in a message.
     pub fn field(self) -> FieldAnswer
         ensures { λ r. ⌜ saidField r ≡ sessionField self ⌝ }
     {
         match self {
-            ChannelSessionSupport::Sessionless => FieldAnswer::Number(0),
-            ChannelSessionSupport::SingleSession => FieldAnswer::Number(1),
-            ChannelSessionSupport::MultiSession => FieldAnswer::Number(2),
-            ChannelSessionSupport::SessionBased => FieldAnswer::Number(3),
             ChannelSessionSupport::Reserved(_) => FieldAnswer::NoForm,
+            _ => FieldAnswer::Number(self.value()),
         }
     }
 

@@ -65,10 +65,7 @@ impl ActivateSession {
         let AuthTypeAnswer::AuthType(auth_type) = AuthType::numbered(request[0]) else {
             return Self::refused(Refusal::NotARequest);
         };
-        if 15 < request[1] {
-            return Self::refused(Refusal::NotARequest);
-        }
-        let PrivilegeAnswer::Level(maximum_privilege_level) = PrivilegeLevel::try_from(request[1])
+        let PrivilegeAnswer::Level(maximum_privilege_level) = PrivilegeLevel::numbered(request[1])
         else {
             return Self::refused(Refusal::NotARequest);
         };

@@ -8,6 +8,9 @@ use Rattle.setting.proofs.Said.{set-command-one, settings-one}
 pub access-pair-from-unique : Unique p.set_channel_access.AccessPair.from.Kinds.ps p.set_channel_access.AccessPair.from.Kinds.r p.set_channel_access.AccessPair.from.Reads.Asked p.set_channel_access.AccessPair.from.Reads.Learnt
 access-pair-from-unique κs a ok z z′ w w′ q q′ = (both q q′, refl)
 
+pub access-pair-value-unique : Unique p.set_channel_access.AccessPair.value.Kinds.ps p.set_channel_access.AccessPair.value.Kinds.r p.set_channel_access.AccessPair.value.Reads.Asked p.set_channel_access.AccessPair.value.Reads.Learnt
+access-pair-value-unique κs a ok z z′ w w′ q q′ = (both q q′, refl)
+
 pub access-pair-field-unique : Unique p.set_channel_access.AccessPair.field.Kinds.ps p.set_channel_access.AccessPair.field.Kinds.r p.set_channel_access.AccessPair.field.Reads.Asked p.set_channel_access.AccessPair.field.Reads.Learnt
 access-pair-field-unique κs a ok z z′ w w′ q q′ = (field-one z z′ (both q q′), refl)
 

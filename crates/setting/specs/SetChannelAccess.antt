@@ -56,11 +56,18 @@ pairs = Leave ∷ NonVolatile ∷ Volatile ∷ []
 abbrev pub pairOf : ℕ → AccessPair
 pairOf n = getD pairs n Reserved
 
--- the same, from the pair; "9 .. for 11 in either pair of bits"
+-- the same, from the pair: the two bits as a number
+abbrev pub pairValue : AccessPair → ℕ
+pairValue Leave = 0
+pairValue NonVolatile = 1
+pairValue Volatile = 2
+pairValue Reserved = 3
+
+-- what a request has for a pair; "9 .. for 11 in either pair of bits"
 abbrev pub pairField : AccessPair → Outcome ℕ
-pairField Leave = accepted 0
-pairField NonVolatile = accepted 1
-pairField Volatile = accepted 2
+pairField Leave = accepted (pairValue Leave)
+pairField NonVolatile = accepted (pairValue NonVolatile)
+pairField Volatile = accepted (pairValue Volatile)
 pairField Reserved = refused 9 []
 
 -- bits 7:6 of a byte, which are not 11

@@ -2,7 +2,7 @@
 ghost use mathlib.Core.Path.{_≡_};
 ghost use Rattle.base.specs.Field.{saidField};
 ghost use Rattle.base.specs.Written.{Writes};
-ghost use Rattle.setting.specs.SetChannelAccess.{applied, changed, chosen, commandBytes, commandFor, commandOf, pairField, pairIn, pairOf, partsBytes, saidCommand, saidPair, saidParts, saidSettings, sets};
+ghost use Rattle.setting.specs.SetChannelAccess.{applied, changed, chosen, commandBytes, commandFor, commandOf, pairField, pairIn, pairOf, pairValue, partsBytes, saidCommand, saidPair, saidParts, saidSettings, sets};
 use base::connection::Channel;
 use base::connection::ChannelAnswer;
 use base::field::FieldAnswer;
@@ -39,14 +39,24 @@ impl AccessPair {
         }
     }
 
+    pub fn value(self) -> u8
+        ensures { λ r. ⌜ r ≡ pairValue self ⌝ }
+    {
+        match self {
+            AccessPair::Leave => 0,
+            AccessPair::NonVolatile => 1,
+            AccessPair::Volatile => 2,
+            AccessPair::Reserved => 3,
+        }
+    }
+
+    // The pair's number in a message.
     pub fn field(self) -> FieldAnswer
         ensures { λ r. ⌜ saidField r ≡ pairField self ⌝ }
     {
         match self {
-            AccessPair::Leave => FieldAnswer::Number(0),
-            AccessPair::NonVolatile => FieldAnswer::Number(1),
-            AccessPair::Volatile => FieldAnswer::Number(2),
             AccessPair::Reserved => FieldAnswer::NoForm,
+            _ => FieldAnswer::Number(self.value()),
         }
     }
 

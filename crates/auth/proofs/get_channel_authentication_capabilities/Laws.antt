@@ -9,14 +9,13 @@ use native.Mathlib.Omega.{arith}
 use borrow.Author.Tests.{eqb-true, ltb-false, le-ltb}
 use lib.Dec.{eqb, ltb}
 use lib.ListN.{length}
-use Rattle.auth.specs.Auth.{privileges, privilegeOf, privilegeValue}
+use Rattle.auth.specs.Auth.{privileges, privilegeValue}
 use Rattle.auth.specs.GetChannelAuthenticationCapabilities.{askedChannel, askedLevel, bestAuth, capabilitiesBytes, capabilitiesFrom, capabilitiesOf, command, commandBytes, commandOf, extendedOf}
-use Rattle.auth.specs.declared.AuthType.{AuthType}
 use Rattle.auth.specs.declared.AuthType.the-variants.{None, MD2, MD5, Key}
 use Rattle.auth.specs.declared.PrivilegeLevel.{PrivilegeLevel}
 use Rattle.auth.specs.declared.get_channel_authentication_capabilities.ChannelAuthenticationCapabilities.{ChannelAuthenticationCapabilities}
 use Rattle.auth.specs.declared.get_channel_authentication_capabilities.GetChannelAuthenticationCapabilities.{GetChannelAuthenticationCapabilities}
-use Rattle.auth.proofs.Laws.{low-level, nibble-iff}
+use Rattle.auth.proofs.Laws.{best-none, nibble-iff}
 use Rattle.base.specs.Choice.{if_then_else_}
 use Rattle.base.specs.Connection.{channelOf, channelField}
 use Rattle.base.specs.Field.{byte, flag}
@@ -28,9 +27,6 @@ use Rattle.base.proofs.connection.Laws.{channel-iff, no-channel-form}
 use Rattle.base.proofs.field.Laws.{flags-read, so-long}
 
 -- The command.
-
-pub level-read : (n : ℕ) (o : Option PrivilegeLevel) → n ≤ 15 → accepted o ≡ accepted (privilegeOf n) → named privileges n ≡ o
-level-read n o h e = cc (low-level n h)
 
 -- the byte of a level is its whole number
 level-iff : (n : ℕ) (l : PrivilegeLevel) → askedLevel n ≡ accepted l ↔ privilegeValue l ≡ n
@@ -120,14 +116,6 @@ capabilities-back c h =
 
 -- "no type exactly when all four bits are clear"
 pub no-auth-iff : (c : ChannelAuthenticationCapabilities) → bestAuth c ≡ none ↔ (c .md5 ≡ false) × (c .md2 ≡ false) × (c .key ≡ false) × (c .none ≡ false)
-no-auth-iff c = (go (c .md5) (c .md2) (c .key) (c .none), λ h. simp (h .0, h .1, h .2, h .3))
-  where
-    some-not : (a : AuthType) → some a ≡ none → ⊥
-    some-not a e = let z : _≡_ {A = ℕ} 0 1 = cc in omega arith
-
-    go : (w x y z : Bool) → (if w then some MD5 else if x then some MD2 else if y then some Key else if z then some None else none) ≡ none → (w ≡ false) × (x ≡ false) × (y ≡ false) × (z ≡ false)
-    go true x y z e = absurd (some-not MD5 e)
-    go false true y z e = absurd (some-not MD2 e)
-    go false false true z e = absurd (some-not Key e)
-    go false false false true e = absurd (some-not None e)
-    go false false false false e = (refl, refl, refl, refl)
+no-auth-iff c =
+    let none-iff = best-none (c .key) (c .md5) (c .md2) (c .none) in
+    ((λ e. let f = none-iff .0 e in (f MD5, f MD2, f Key, f None)), λ h. none-iff .1 (elim [ None ↦ h .3 | MD2 ↦ h .1 | MD5 ↦ h .0 | Key ↦ h .2 ]))

@@ -9,16 +9,16 @@ use Rattle.base.specs.Field.{Bytes, byte}
 use Rattle.base.specs.Outcome.{accepted, _>>=_}
 use Rattle.base.specs.declared.connection.Channel.{Channel}
 use Rattle.base.proofs.Outcome.{apart, steps}
-use Rattle.base.proofs.connection.Laws.{channel-iff}
+use Rattle.base.proofs.connection.Laws.{value-new}
 use Rattle.channel.specs.declared.get_channel_access.ChannelAccess.{ChannelAccess}
-use Rattle.setting.specs.SetChannelAccess.{applied, command, commandBytes, commandFor, commandOf, pairField, pairOf, partsBytes, saidCommand, saidSettings}
+use Rattle.setting.specs.SetChannelAccess.{applied, command, commandBytes, commandFor, commandOf, pairField, pairOf, pairValue, partsBytes, saidCommand, saidSettings}
 use Rattle.setting.specs.declared.set_channel_access.AccessPair.{AccessPair}
 use Rattle.setting.specs.declared.set_channel_access.ChannelSettings.{ChannelSettings}
 use Rattle.setting.specs.declared.set_channel_access.CommandAnswer.{CommandAnswer}
 use Rattle.setting.specs.declared.set_channel_access.SettingsAnswer.{SettingsAnswer}
 use Rattle.setting.proofs.set_channel_access.Laws.{command-back, command-iff, pair-reserved, parts-are}
 use Rattle.layouts.specs.Layouts.{accessRecord, setAccessLayout, settingsLayout, settingsRecord}
-use Rattle.layouts.proofs.Laws.{flagged, record-laid, set-access-back, set-laid}
+use Rattle.layouts.proofs.Laws.{flagged, record-laid, set-access-back}
 use Rattle.capi.specs.Settings.{setAccessApplied, setAccessRecord, setAccessRequest}
 
 -- What is answered of a command of Set Channel Access whose parts were made first: its making, and its applying.
@@ -38,10 +38,12 @@ any-channel channel m l access settings = refl
 -- What is read from C, given back, is the request that was read.
 pub set-access-again : (s r : List ℕ) → Bytes s → setAccessRecord s ≡ accepted r → setAccessRequest (byte 0 r) (byte 1 r) (byte 2 r) (drop 3 r) ≡ accepted s
 set-access-again s r b e =
-    let (k, ek, f) = steps (commandOf s) setAccessLayout e in
-    rw (set-access-back k r f) (command-iff s k b .0 ek)
+    let (k, ek, f) = steps (commandOf s) (λ k. accepted (setAccessLayout k)) e in
+    let w = command-iff s k b .0 ek in
+    let z : setAccessLayout k ≡ r = cc in
+    rw (← z, set-access-back k s w) w
 
-pair-number : (n m : ℕ) → pairField (pairOf n) ≡ accepted m → pairField (pairOf n) ≡ accepted n
+pair-number : (n m : ℕ) → pairField (pairOf n) ≡ accepted m → pairValue (pairOf n) ≡ n
 pair-number zero m e = refl
 pair-number (suc zero) m e = refl
 pair-number (suc (suc zero)) m e = refl
@@ -58,4 +60,4 @@ set-access-read n m l a s e =
     let (x, ex, g) = steps (channelField c) (λ x. partsBytes k >>= λ p. accepted (x ∷ p)) f in
     let (p, ep, h) = steps (partsBytes k) (λ p. accepted (x ∷ p)) g in
     let (i, j, t, ei, ej, et, o) = parts-are k p ep in
-    rw (command-back k s f) (set-laid k n m l (flagged 0 a) (channel-iff n c .0 ec) (pair-number m i ei) (pair-number l j ej) (record-laid a t et))
+    rw (command-back k s f, value-new n c ec, pair-number m i ei, pair-number l j ej, record-laid a)

@@ -1,9 +1,9 @@
 -- Laws of Get Channel Access.
 use mathlib.Core.Logic.{_↔_}
-use mathlib.Core.Path.{_≡_, refl}
+use mathlib.Core.Path.{_≡_, refl, sym, _∙_, ap}
 use mathlib.Core.Bool.{Bool, true, false}
 use mathlib.Core.List.{List, [], _∷_}
-use Prim.Native.Nat.{ℕ, _+_, _*_, _%_, _≤_, _<_}
+use Prim.Native.Nat.{ℕ, zero, suc, _+_, _*_, _%_, _≤_, _<_}
 use native.Mathlib.Omega.{arith}
 use borrow.Author.Tests.{eqb-true}
 use lib.Bits.{bitOr}
@@ -13,7 +13,7 @@ use mir.Val.{boolByte}
 use Rattle.base.specs.Choice.{if_then_else_}
 use Rattle.base.specs.Connection.{channelOf, channelField}
 use Rattle.base.specs.Field.{byte, bits, raised}
-use Rattle.channel.specs.GetChannelAccess.{accessFields, accessOf, accessBytes, command, commandOf, commandBytes, limits, limitOf, limitField, modes, modeOf, modeField, typeOf, typeByte}
+use Rattle.channel.specs.GetChannelAccess.{accessFields, accessOf, accessBytes, command, commandOf, commandBytes, limits, limitOf, limitField, limitValue, modes, modeOf, modeField, modeValue, typeOf, typeByte}
 use Rattle.base.specs.Outcome.{Outcome, accepted, refused, _>>=_, faultsAs}
 use Rattle.base.specs.declared.connection.Channel.{Channel}
 use Rattle.channel.specs.declared.get_channel_access.ChannelAccess.{ChannelAccess}
@@ -57,6 +57,32 @@ limit-back Level.Operator n e = same limitOf 16 3 n (lit< tt) refl e
 limit-back Level.Administrator n e = same limitOf 16 4 n (lit< tt) refl e
 limit-back Level.Oem n e = same limitOf 16 5 n (lit< tt) refl e
 limit-back (Level.Unknown v) n e = let w = ranged v 6 15 v 9 e in same limitOf 16 v n (omega arith) (limit-unknown v (w .0)) (cc)
+
+-- What is read from a number has that number as its value.
+
+pub mode-value : (n : ℕ) → modeValue (modeOf n) ≡ n
+mode-value zero = refl
+mode-value (suc zero) = refl
+mode-value (suc (suc zero)) = refl
+mode-value (suc (suc (suc zero))) = refl
+mode-value (suc (suc (suc (suc n)))) = ap modeValue (mode-unknown (suc (suc (suc (suc n)))) (omega arith))
+
+pub limit-value : (n : ℕ) → limitValue (limitOf n) ≡ n
+limit-value zero = refl
+limit-value (suc zero) = refl
+limit-value (suc (suc zero)) = refl
+limit-value (suc (suc (suc zero))) = refl
+limit-value (suc (suc (suc (suc zero)))) = refl
+limit-value (suc (suc (suc (suc (suc zero))))) = refl
+limit-value (suc (suc (suc (suc (suc (suc n)))))) = ap limitValue (limit-unknown (suc (suc (suc (suc (suc (suc n)))))) (omega arith))
+
+-- What is in a field is the value.
+
+pub mode-field : (m : ChannelAccessMode) (n : ℕ) → modeField m ≡ accepted n → modeValue m ≡ n
+mode-field m n e = ap modeValue (sym (mode-back m n e .1)) ∙ mode-value n
+
+pub limit-field : (m : ChannelPrivilegeLevel) (n : ℕ) → limitField m ≡ accepted n → limitValue m ≡ n
+limit-field m n e = ap limitValue (sym (limit-back m n e .1)) ∙ limit-value n
 
 -- Byte 0 of the response: what the machine puts together, and its four fields.
 

@@ -1,17 +1,17 @@
 -- Laws of the types of Get Channel Info.
-use mathlib.Core.Path.{_≡_, refl}
+use mathlib.Core.Path.{_≡_, refl, ap}
 use mathlib.Core.Bool.{Bool, true, false}
 use Prim.Native.Nat.{ℕ, _≤_, _<_}
 use native.Mathlib.Omega.{arith}
-use borrow.Author.Tests.{eqb-true, lt-ltb, le-ltb}
-use lib.Dec.{eqb, lit<}
+use borrow.Author.Tests.{eqb-true, lt-ltb, le-ltb, ltb-true, ltb-false}
+use lib.Dec.{eqb, ltb, lit<}
 use lib.ListN.{List·getD-eq-default}
 use Rattle.base.specs.Choice.{if_then_else_, if_from_to_then_else_}
 use Rattle.base.specs.Field.{within}
 use Rattle.base.specs.Outcome.{accepted}
 use Rattle.base.proofs.Outcome.{apart, Only, ranged, only-ranged}
-use Rattle.base.proofs.field.Laws.{below, same}
-use Rattle.media.specs.Media.{mediums, mediumField, mediumOf, protocols, protocolField, protocolOf, sessions, sessionField, sessionOf}
+use Rattle.base.proofs.field.Laws.{below, same, upTo}
+use Rattle.media.specs.Media.{mediums, mediumField, mediumOf, mediumValue, protocols, protocolField, protocolOf, protocolValue, sessions, sessionField, sessionOf, sessionValue}
 use Rattle.media.specs.declared.get_channel_info.ChannelMediumType.{ChannelMediumType}
 use Rattle.media.specs.declared.get_channel_info.ChannelMediumType.the-variants as Medium
 use Rattle.media.specs.declared.get_channel_info.ChannelProtocolType.{ChannelProtocolType}
@@ -49,6 +49,34 @@ module _ (n : ℕ) (past : 0x0A ≤ n) where
 
 pub session-other : (n : ℕ) → 4 ≤ n → sessionOf n ≡ Session.Reserved n
 session-other n h = List·getD-eq-default sessions (Session.Reserved n) h
+
+-- What is read from a number has that number as its value.
+
+-- so it is for each number, if it is for those below k, which is computed, and for those past them
+valued : {A : Type 0} (value : A → ℕ) (read : ℕ → A) (k : ℕ) → upTo k (λ n. value (read n)) ≡ upTo k (λ n. n) → ((n : ℕ) → k ≤ n → value (read n) ≡ n) → (n : ℕ) → value (read n) ≡ n
+valued value read k test past n = go (ltb n k) refl
+  where
+    go : (x : Bool) → ltb n k ≡ x → value (read n) ≡ n
+    go true p = below k (λ n. value (read n)) (λ n. n) test n (ltb-true n k p)
+    go false p = past n (ltb-false n k p)
+
+-- whichever of two it is that holds the number
+either : {A : Type 0} (value : A → ℕ) (n first last : ℕ) (a b : A) → value a ≡ n → value b ≡ n → value (if n from first to last then a else b) ≡ n
+either value n first last a b p q = go (ltb n first) (ltb last n)
+  where
+    go : (x y : Bool) → value (if x then b else if y then b else a) ≡ n
+    go true y = q
+    go false true = q
+    go false false = p
+
+pub medium-value : (n : ℕ) → mediumValue (mediumOf n) ≡ n
+medium-value = valued mediumValue mediumOf 0x0D refl λ n past. rw (medium-other n past) (either mediumValue n 0x60 0x7F (Medium.Oem n) (Medium.ReservedValue n) refl refl)
+
+pub protocol-value : (n : ℕ) → protocolValue (protocolOf n) ≡ n
+protocol-value = valued protocolValue protocolOf 0x0A refl λ n past. rw (protocol-other n past) (either protocolValue n 0x1C 0x1F (Protocol.Oem n) (Protocol.ReservedValue n) refl refl)
+
+pub session-value : (n : ℕ) → sessionValue (sessionOf n) ≡ n
+session-value = valued sessionValue sessionOf 4 refl λ n past. ap sessionValue (session-other n past)
 
 -- A number that is read is written again, and what is written is read again.
 

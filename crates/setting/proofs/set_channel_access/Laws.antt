@@ -27,7 +27,7 @@ use Rattle.base.proofs.written.Laws.{filled}
 use Rattle.channel.specs.GetChannelAccess.{accessBytes, accessFields, accessOf, limitField, modeField}
 use Rattle.channel.specs.declared.get_channel_access.ChannelAccess.{ChannelAccess}
 use Rattle.channel.proofs.get_channel_access.Laws.{access-back, access-given, access-only, first, limit-back, limit-given, mode-back, mode-given}
-use Rattle.setting.specs.SetChannelAccess.{command, commandBytes, commandOf, pairs, pairOf, pairField, pairIn, partsBytes}
+use Rattle.setting.specs.SetChannelAccess.{command, commandBytes, commandOf, pairs, pairOf, pairField, pairIn, pairValue, partsBytes}
 use Rattle.setting.specs.declared.set_channel_access.AccessPair.{AccessPair}
 use Rattle.setting.specs.declared.set_channel_access.AccessPair.the-variants.{Leave, NonVolatile, Volatile, Reserved}
 use Rattle.setting.specs.declared.set_channel_access.SetChannelAccess.{SetChannelAccess}
@@ -45,6 +45,14 @@ pair-back Leave n e = same pairOf 3 0 n (lit< tt) refl e
 pair-back NonVolatile n e = same pairOf 3 1 n (lit< tt) refl e
 pair-back Volatile n e = same pairOf 3 2 n (lit< tt) refl e
 pair-back Reserved n e = absurd (apart e)
+
+-- The value is the two bits as they were read, and what is in a field is the value.
+
+pub pair-value : (n : ℕ) → n < 4 → pairValue (pairOf n) ≡ n
+pair-value n h = below 4 (λ n. pairValue (pairOf n)) (λ n. n) refl n h
+
+pub pair-field : (p : AccessPair) (n : ℕ) → pairField p ≡ accepted n → pairValue p ≡ n
+pair-field p n e = let (small, z) = pair-back p n e in rw (← z) (pair-value n (omega arith))
 
 pair-iff : (byte : ℕ) (p : AccessPair) → pairIn byte ≡ accepted p ↔ pairField p ≡ accepted (bits 6 2 byte)
 pair-iff byte p = (go (ltb (bits 6 2 byte) 3) refl, λ e. let z = pair-back p (bits 6 2 byte) e .1 in rw (z, e))

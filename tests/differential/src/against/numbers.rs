@@ -52,7 +52,7 @@ fn best_of([key, md5, md2, none]: [bool; 4]) -> u64 {
 }
 
 fn compare_strength() -> Held {
-    let mut held = Held::new("compare_strength", true);
+    let mut held = Held::new("compare_strength", false);
     for one in 0..=u8::MAX {
         for other in 0..=u8::MAX {
             let said = sys::compare_strength(one, other);

@@ -1,8 +1,8 @@
 //! The data of the six commands, as the crate's messages have them.
 
-use crate::held::{refused, refused_with, Expected, Held};
+use crate::held::{refused, Expected, Held};
 use crate::inputs::Random;
-use ghjalvestru::sys;
+use ghjalvestru::sys::{self, NONE};
 use oracle_core::app::auth::{
     ActivateSession, AuthType, GetChannelAuthenticationCapabilities, GetChannelCipherSuites,
     GetSessionChallenge, PrivilegeLevel,
@@ -35,15 +35,16 @@ fn channel(number: u8) -> Result<Channel, u64> {
     Channel::new(number).ok_or(refused(6))
 }
 
+/// What names no type is not refused: it answers none.
 pub fn auth_type(number: u8) -> Result<AuthType, u64> {
-    AuthType::try_from(number).map_err(|()| refused_with(4, number))
+    AuthType::try_from(number).map_err(|()| NONE)
 }
 
-/// A level as a command writes it: the crate makes it from the low nibble, and writes that alone.
+/// The same for a level as a command writes it: the crate makes it from the low nibble, and writes that alone.
 fn level(number: u8) -> Result<PrivilegeLevel, u64> {
     let level = PrivilegeLevel::try_from(number).ok();
     let level = level.filter(|&level| u8::from(level) == number);
-    level.ok_or(refused_with(5, number))
+    level.ok_or(NONE)
 }
 
 /// On all pairs of numbers.

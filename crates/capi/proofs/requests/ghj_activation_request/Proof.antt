@@ -1,32 +1,35 @@
 use borrow.Author.Needs.{needs}
 use mathlib.Core.Option.{none, some}
 use mathlib.Core.Path.{refl}
-use Rattle.base.specs.declared.refusal.Refusal.the-variants.{InvalidAuthType, InvalidPrivilegeLevel}
+use Rattle.base.specs.Outcome.{accepted}
 use Rattle.base.proofs.Named.{told}
 use Rattle.auth.specs.Auth.{saidAuthType, saidPrivilege}
-use Rattle.capi.proofs.Laws.{coding, refused-coded}
+use Rattle.session.specs.ActivateSession.{command, commandBytes}
+use Rattle.capi.proofs.Laws.{any-none, any-sure, coding}
 use Rattle.capi.proofs.requests.ghj_activation_request.Statement.{statement}
 use Rattle.capi.proofs.requests.ghj_activation_request.Tie as tie
 
-returns : tie.Need-returns
-returns c =
-    let n = told saidAuthType none (c .before .before .before .numbered .ensures) (c .before .enum-told .given .1) refl in
-    refused-coded (InvalidAuthType (c .before .before .before .before .before .args .auth-type)) (c .before .before .before .before .before .args .out .now) (rw n) (c .refused .ensures)
-
-returns-2 : tie.Need-returns-2
-returns-2 c =
-    let k = c .before .before .before .before .before .kind .given in
-    let n = told saidAuthType (some (k .0 .0)) (c .before .before .before .before .before .before .before .numbered .ensures) (k .1) refl in
-    let m = told saidPrivilege none (c .before .before .before .whole-privilege .ensures) (c .before .enum-told2 .given .1) refl in
-    refused-coded (InvalidPrivilegeLevel (c .before .before .before .before .before .before .before .before .before .args .privilege)) (c .before .before .before .before .before .before .before .before .before .args .out .now) (rw (n, m)) (c .refused2 .ensures)
-
+-- What is accepted stands first: a function that takes more is refused here.
 returns-3 : tie.Need-returns-3
 returns-3 c =
+    let a = c .before .before .before .before .before .before .before .before .before .before .before .before .before .before .before .args in
     let k = c .before .before .before .before .before .before .before .before .before .before .before .kind .given in
     let l = c .before .before .before .before .before .before .before .level .given in
     let n = told saidAuthType (some (k .0 .0)) (c .before .before .before .before .before .before .before .before .before .before .before .before .before .numbered .ensures) (k .1) refl in
-    let m = told saidPrivilege (some (l .0 .0)) (c .before .before .before .before .before .before .before .before .before .whole-privilege .ensures) (l .1) refl in
-    rw (n, m) (coding (c .code .ensures) (c .before .before .before .write .ensures))
+    let m = told saidPrivilege (some (l .0 .0)) (c .before .before .before .before .before .before .before .before .before .numbered2 .ensures) (l .1) refl in
+    any-sure (accepted (commandBytes (command (k .0 .0) (l .0 .0) (a .challenge .now) (a .sequence)))) (rw (n, m)) (coding (c .code .ensures) (c .before .before .before .write .ensures))
+
+returns : tie.Need-returns
+returns c =
+    let n = told saidAuthType none (c .before .before .numbered .ensures) (c .enum-told .given .1) refl in
+    any-none (rw n) refl
+
+returns-2 : tie.Need-returns-2
+returns-2 c =
+    let k = c .before .before .before .before .kind .given in
+    let n = told saidAuthType (some (k .0 .0)) (c .before .before .before .before .before .before .numbered .ensures) (k .1) refl in
+    let m = told saidPrivilege none (c .before .before .numbered2 .ensures) (c .enum-told2 .given .1) refl in
+    any-none (rw (n, m)) refl
 
 pub ghj-activation-request-spec : {M : Type 1} → statement M
 ghj-activation-request-spec =
@@ -35,9 +38,7 @@ ghj-activation-request-spec =
     (search needs)
     (search needs)
     (search needs)
-    (search needs)
     returns
-    (search needs)
     (search needs)
     (search needs)
     (search needs)

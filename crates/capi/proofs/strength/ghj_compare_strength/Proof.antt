@@ -6,18 +6,7 @@ use Rattle.auth.specs.Auth.{saidAuthType}
 use Rattle.capi.proofs.strength.ghj_compare_strength.Statement.{statement}
 use Rattle.capi.proofs.strength.ghj_compare_strength.Tie as tie
 
-returns : tie.Need-returns
-returns c =
-    let n = told saidAuthType none (c .before .before .before .numbered .ensures) (c .before .enum-told .given .1) refl in
-    rw n (c .refused .ensures)
-
-returns-2 : tie.Need-returns-2
-returns-2 c =
-    let k = c .before .before .before .before .before .kind .given in
-    let n = told saidAuthType (some (k .0 .0)) (c .before .before .before .before .before .before .before .numbered .ensures) (k .1) refl in
-    let m = told saidAuthType none (c .before .before .before .numbered2 .ensures) (c .before .enum-told2 .given .1) refl in
-    rw (n, m) (c .refused2 .ensures)
-
+-- What is accepted stands first: a function that takes more is refused here.
 returns-3 : tie.Need-returns-3
 returns-3 c =
     let k = c .before .before .before .before .before .before .before .kind .given in
@@ -26,6 +15,18 @@ returns-3 c =
     let m = told saidAuthType (some (s .0 .0)) (c .before .before .before .before .before .numbered2 .ensures) (s .1) refl in
     rw (n, m, ← c .before .compare-strength .ensures) (c .order-number .ensures)
 
+returns : tie.Need-returns
+returns c =
+    let n = told saidAuthType none (c .before .before .numbered .ensures) (c .enum-told .given .1) refl in
+    rw n
+
+returns-2 : tie.Need-returns-2
+returns-2 c =
+    let k = c .before .before .before .before .kind .given in
+    let n = told saidAuthType (some (k .0 .0)) (c .before .before .before .before .before .before .numbered .ensures) (k .1) refl in
+    let m = told saidAuthType none (c .before .before .numbered2 .ensures) (c .enum-told2 .given .1) refl in
+    rw (n, m)
+
 pub ghj-compare-strength-spec : {M : Type 1} → statement M
 ghj-compare-strength-spec =
     tie.close
@@ -33,9 +34,7 @@ ghj-compare-strength-spec =
     (search needs)
     (search needs)
     (search needs)
-    (search needs)
     returns
-    (search needs)
     (search needs)
     (search needs)
     (search needs)

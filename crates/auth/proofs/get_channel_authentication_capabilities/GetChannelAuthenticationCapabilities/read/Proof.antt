@@ -2,12 +2,11 @@ use borrow.Author.Needs.{needs}
 use borrow.Author.Tests.{eq-eqb, ne-eqb, lt-ltb, le-ltb}
 use native.Mathlib.Omega.{arith}
 use mathlib.Core.Option.{none, some}
-use mathlib.Core.Path.{sym, _∙_, ap}
+use mathlib.Core.Path.{refl}
 use lib.ListN.{length}
-use Rattle.auth.specs.Auth.{privileges, saidPrivilege}
-use Rattle.auth.proofs.get_channel_authentication_capabilities.Laws.{level-read}
+use Rattle.auth.specs.Auth.{saidPrivilege}
 use Rattle.base.specs.Field.{byte}
-use Rattle.base.proofs.Named.{nothing}
+use Rattle.base.proofs.Named.{told}
 use Rattle.auth.proofs.get_channel_authentication_capabilities.GetChannelAuthenticationCapabilities.read.Statement.{statement}
 use Rattle.auth.proofs.get_channel_authentication_capabilities.GetChannelAuthenticationCapabilities.read.Tie as tie
 
@@ -27,29 +26,20 @@ returns-3 c =
 
 returns-4 : tie.Need-returns-4
 returns-4 c =
-    let k = c .before .before .before in
+    let t = c .before .before in
+    let k = t .before .before .before in
     let n = k .before .before in
     let s = n .before .before .before .before .before .args .request .now in
-    simp (eq-eqb (length s) 2 (omega arith), le-ltb (byte 0 s) 0x80 (omega arith), ← n .new .ensures, k .channel .given .1, nothing privileges (byte 1 s) (omega arith))
+    simp (eq-eqb (length s) 2 (omega arith), le-ltb (byte 0 s) 0x80 (omega arith), ← n .new .ensures, k .channel .given .1, told saidPrivilege none (t .numbered .ensures) (c .enum-told2 .given .1) refl)
 
 returns-5 : tie.Need-returns-5
 returns-5 c =
-    let t = c .before .before in
-    let k = t .before .before .before .before in
-    let n = k .before .before in
-    let s = n .before .before .before .before .before .args .request .now in
-    let level = level-read (byte 1 s) none (omega arith) (sym (ap saidPrivilege (c .enum-told2 .given .1)) ∙ t .try-from .ensures) in
-    simp (eq-eqb (length s) 2 (omega arith), le-ltb (byte 0 s) 0x80 (omega arith), ← n .new .ensures, k .channel .given .1, level)
-
-returns-6 : tie.Need-returns-6
-returns-6 c =
     let l = c .before .before in
     let t = l .before .before in
-    let k = t .before .before .before .before in
+    let k = t .before .before .before in
     let n = k .before .before in
     let s = n .before .before .before .before .before .args .request .now in
-    let level = level-read (byte 1 s) (some (l .level .given .0 .0)) (omega arith) (sym (ap saidPrivilege (l .level .given .1)) ∙ t .try-from .ensures) in
-    simp (eq-eqb (length s) 2 (omega arith), le-ltb (byte 0 s) 0x80 (omega arith), ← n .new .ensures, k .channel .given .1, level, c .new2 .ensures)
+    simp (eq-eqb (length s) 2 (omega arith), le-ltb (byte 0 s) 0x80 (omega arith), ← n .new .ensures, k .channel .given .1, told saidPrivilege (some (l .level .given .0 .0)) (t .numbered .ensures) (l .level .given .1) refl, c .new2 .ensures)
 
 pub read-spec : {M : Type 1} → statement M
 read-spec =
@@ -63,10 +53,9 @@ read-spec =
     (search needs)
     returns-3
     (search needs)
+    (search needs)
+    (search needs)
+    (search needs)
     returns-4
     (search needs)
-    (search needs)
-    (search needs)
-    returns-5
-    (search needs)
-    returns-6)
+    returns-5)

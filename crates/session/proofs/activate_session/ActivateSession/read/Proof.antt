@@ -1,32 +1,30 @@
 use borrow.Author.Needs.{needs}
 use borrow.Author.Tests.{eq-eqb, ne-eqb}
 use mathlib.Core.Option.{none, some}
-use mathlib.Core.Path.{refl, _∙_, sym}
+use mathlib.Core.Path.{refl}
 use native.Mathlib.Omega.{arith}
 use lib.ListN.{length}
-use Rattle.base.specs.Field.{byte}
 use Rattle.base.specs.declared.refusal.Refusal.the-variants.{NotARequest}
 use Rattle.base.proofs.Named.{told}
 use Rattle.base.proofs.verdict.Laws.{giving, refusing}
 use Rattle.session.specs.ActivateSession.{command, noCommand}
 use Rattle.auth.specs.Auth.{saidAuthType, saidPrivilege}
-use Rattle.auth.proofs.Laws.{high-level, low-level}
 use Rattle.session.proofs.activate_session.Laws.{request-read}
 use Rattle.session.proofs.activate_session.ActivateSession.read.Statement.{statement}
 use Rattle.session.proofs.activate_session.ActivateSession.read.Tie as tie
 
 -- What is accepted stands first: a reader that takes more is refused here.
-returns-5 : tie.Need-returns-5
-returns-5 c =
+returns-4 : tie.Need-returns-4
+returns-4 c =
     let p = c .before .before .before .before .before .before in
     let l = c .before .before .before .before .before .before .before .before .before .before in
-    let k = c .before .before .before .before .before .before .before .before .before .before .before .before .before .before .before .before .before in
-    let s = c .before .before .before .before .before .before .before .before .before .before .before .before .before .before .before .before .before .before .before .before .before .before .before .args .request .now in
+    let k = c .before .before .before .before .before .before .before .before .before .before .before .before .before .before .before in
+    let s = c .before .before .before .before .before .before .before .before .before .before .before .before .before .before .before .before .before .before .before .before .before .args .request .now in
     let kind = k .auth-type .given .0 .0 in
     let level = l .maximum-privilege-level .given .0 .0 in
     let after = p .place .last .1 .0 in
     giving noCommand (command kind level after (c .number4 .result))
-    (request-read s after kind level (c .number4 .result) (omega arith) (told saidAuthType (some (k .auth-type .given .0 .0)) (k .before .before .numbered .ensures) (k .auth-type .given .1) refl) (sym (low-level (byte 1 s) (omega arith)) ∙ told saidPrivilege (some (l .maximum-privilege-level .given .0 .0)) (l .before .before .try-from .ensures) (l .maximum-privilege-level .given .1) refl) (p .place .ensures) (c .number4 .ensures))
+    (request-read s after kind level (c .number4 .result) (omega arith) (told saidAuthType (some kind) (k .before .before .numbered .ensures) (k .auth-type .given .1) refl) (told saidPrivilege (some level) (l .before .before .numbered2 .ensures) (l .maximum-privilege-level .given .1) refl) (p .place .ensures) (c .number4 .ensures))
 
 returns : tie.Need-returns
 returns c =
@@ -42,20 +40,12 @@ returns-2 c =
 
 returns-3 : tie.Need-returns-3
 returns-3 c =
-    let k = c .before .before .before .before in
-    let s = c .before .before .before .before .before .before .before .before .before .before .args .request .now in
+    let t = c .before .before .before in
+    let k = c .before .before .before .before .before .before in
+    let s = c .before .before .before .before .before .before .before .before .before .before .before .before .args .request .now in
     rw (c .refused3 .ensures)
     (refusing noCommand NotARequest
-    (simp (eq-eqb (length s) 22 (omega arith), told saidAuthType (some (k .auth-type .given .0 .0)) (k .before .before .numbered .ensures) (k .auth-type .given .1) refl, high-level (byte 1 s) (omega arith))))
-
-returns-4 : tie.Need-returns-4
-returns-4 c =
-    let t = c .before .before .before in
-    let k = c .before .before .before .before .before .before .before .before in
-    let s = c .before .before .before .before .before .before .before .before .before .before .before .before .before .before .args .request .now in
-    rw (c .refused4 .ensures)
-    (refusing noCommand NotARequest
-    (simp (eq-eqb (length s) 22 (omega arith), told saidAuthType (some (k .auth-type .given .0 .0)) (k .before .before .numbered .ensures) (k .auth-type .given .1) refl, sym (low-level (byte 1 s) (omega arith)) ∙ told saidPrivilege none (t .try-from .ensures) (c .before .enum-told2 .given .1) refl)))
+    (simp (eq-eqb (length s) 22 (omega arith), told saidAuthType (some (k .auth-type .given .0 .0)) (k .before .before .numbered .ensures) (k .auth-type .given .1) refl, told saidPrivilege none (t .numbered2 .ensures) (c .before .enum-told2 .given .1) refl)))
 
 pub read-spec : {M : Type 1} → statement M
 read-spec =
@@ -71,13 +61,10 @@ read-spec =
     returns-2
     (search needs)
     (search needs)
+    (search needs)
+    (search needs)
+    (search needs)
     returns-3
-    (search needs)
-    (search needs)
-    (search needs)
-    (search needs)
-    (search needs)
-    returns-4
     (search needs)
     (search needs)
     (search needs)
@@ -88,4 +75,4 @@ read-spec =
     (search needs)
     (search needs)
     (search needs)
-    returns-5)
+    returns-4)

@@ -1,5 +1,5 @@
-use Rattle.auth.proofs.get_channel_authentication_capabilities.ChannelAuthenticationCapabilities.best_auth.Statement.{statement}
-use Rattle.auth.proofs.get_channel_authentication_capabilities.ChannelAuthenticationCapabilities.best_auth.Tie as tie
+use Rattle.auth.proofs.AuthType.best_of.Statement.{statement}
+use Rattle.auth.proofs.AuthType.best_of.Tie as tie
 
 returns : tie.Need-returns
 returns c = simp (c .if1 .taken)
@@ -16,8 +16,8 @@ returns-4 c = simp (c .before .before .before .if1 .left, c .before .before .if2
 returns-5 : tie.Need-returns-5
 returns-5 c = simp (c .before .before .before .if1 .left, c .before .before .if2 .left, c .before .if3 .left, c .if4 .left)
 
-pub best-auth-spec : {M : Type 1} → statement M
-best-auth-spec =
+pub best-of-spec : {M : Type 1} → statement M
+best-of-spec =
     tie.close
     (tie.spec
     returns
