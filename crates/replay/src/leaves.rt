@@ -1,14 +1,9 @@
-// Questions on the leaves of the port. An answer of no bytes: not such a question.
-use crate::channels::channel_text;
-use crate::put::carried;
-use crate::put::decimal;
-use crate::put::named;
-use crate::put::none;
-use crate::put::refused;
-use crate::put::text;
+// Types without parts: what a number names, as the number that the name has and, times 256, its place among the names of its
+// type, in the order of the Rust. GHJ_NONE where it names nothing.
+use crate::calls::NONE;
+use crate::calls::refused;
 use auth::AuthType;
 use auth::AuthTypeAnswer;
-use auth::Ordering;
 use auth::PrivilegeAnswer;
 use auth::PrivilegeLevel;
 use auth::algorithms::AuthenticationAlgorithm;
@@ -24,179 +19,113 @@ use base::connection::LogicalUnit;
 use base::connection::NumberAnswer;
 use base::connection::UnitAnswer;
 use base::refusal::Refusal;
-use base::written::Written;
-use check::same;
 
-fn channel_number(n: u8, out: &mut [u8]) -> usize {
+pub(crate) fn channel_number(n: u8) -> u64 {
     let NumberAnswer::Number(number) = ChannelNumber::new(n) else {
-        return refused(Refusal::NoChannel, out);
+        return refused(Refusal::NoChannel);
     };
-    decimal(number.value() as u64, 0, out)
+    number.value() as u64
 }
 
-fn channel(n: u8, out: &mut [u8]) -> usize {
+pub(crate) fn channel(n: u8) -> u64 {
     let ChannelAnswer::Channel(channel) = Channel::new(n) else {
-        return refused(Refusal::NoChannel, out);
+        return refused(Refusal::NoChannel);
     };
-    let at = decimal(channel.value() as u64, 0, out);
-    let at = text(b" ", at, out);
-    channel_text(channel, at, out)
+    channel.value() as u64
 }
 
-fn unit(unit: LogicalUnit, out: &mut [u8]) -> usize {
-    let number = unit.value();
-    match unit {
-        LogicalUnit::Zero => named(b"Zero", number, out),
-        LogicalUnit::One => named(b"One", number, out),
-        LogicalUnit::Two => named(b"Two", number, out),
-        LogicalUnit::Three => named(b"Three", number, out),
-    }
+fn named(place: u8, number: u8) -> u64 {
+    256 * (place as u64) + (number as u64)
 }
 
-fn unit_of(n: u8, out: &mut [u8]) -> usize {
-    let UnitAnswer::Unit(found) = LogicalUnit::try_from(n) else {
-        return none(out);
+fn unit_named(unit: LogicalUnit) -> u64 {
+    let place = match unit {
+        LogicalUnit::Zero => 0,
+        LogicalUnit::One => 1,
+        LogicalUnit::Two => 2,
+        LogicalUnit::Three => 3,
     };
-    unit(found, out)
+    named(place, unit.value())
 }
 
-pub(crate) fn authentication_name(
-    algorithm: AuthenticationAlgorithm,
-    at: usize,
-    out: &mut [u8],
-) -> usize {
-    match algorithm {
-        AuthenticationAlgorithm::RakpNone => text(b"RakpNone", at, out),
-        AuthenticationAlgorithm::RakpHmacSha1 => text(b"RakpHmacSha1", at, out),
-        AuthenticationAlgorithm::RakpHmacMd5 => text(b"RakpHmacMd5", at, out),
-        AuthenticationAlgorithm::RakpHmacSha256 => text(b"RakpHmacSha256", at, out),
-    }
+pub(crate) fn unit_low(n: u8) -> u64 {
+    unit_named(LogicalUnit::from_low_bits(n))
 }
 
-fn authentication(n: u8, out: &mut [u8]) -> usize {
+pub(crate) fn unit(n: u8) -> u64 {
+    let UnitAnswer::Unit(unit) = LogicalUnit::try_from(n) else {
+        return NONE;
+    };
+    unit_named(unit)
+}
+
+pub(crate) fn authentication(n: u8) -> u64 {
     let AuthenticationAnswer::Algorithm(algorithm) = AuthenticationAlgorithm::try_from(n) else {
-        return none(out);
+        return NONE;
     };
-    let at = authentication_name(algorithm, 0, out);
-    carried(algorithm.value(), at, out)
+    let place = match algorithm {
+        AuthenticationAlgorithm::RakpNone => 0,
+        AuthenticationAlgorithm::RakpHmacSha1 => 1,
+        AuthenticationAlgorithm::RakpHmacMd5 => 2,
+        AuthenticationAlgorithm::RakpHmacSha256 => 3,
+    };
+    named(place, algorithm.value())
 }
 
-pub(crate) fn integrity_name(algorithm: IntegrityAlgorithm, at: usize, out: &mut [u8]) -> usize {
-    match algorithm {
-        IntegrityAlgorithm::None => text(b"None", at, out),
-        IntegrityAlgorithm::HmacSha1_96 => text(b"HmacSha1_96", at, out),
-        IntegrityAlgorithm::HmacMd5_128 => text(b"HmacMd5_128", at, out),
-        IntegrityAlgorithm::Md5_128 => text(b"Md5_128", at, out),
-        IntegrityAlgorithm::HmacSha256_128 => text(b"HmacSha256_128", at, out),
-    }
-}
-
-fn integrity(n: u8, out: &mut [u8]) -> usize {
+pub(crate) fn integrity(n: u8) -> u64 {
     let IntegrityAnswer::Algorithm(algorithm) = IntegrityAlgorithm::try_from(n) else {
-        return none(out);
+        return NONE;
     };
-    let at = integrity_name(algorithm, 0, out);
-    carried(algorithm.value(), at, out)
+    let place = match algorithm {
+        IntegrityAlgorithm::None => 0,
+        IntegrityAlgorithm::HmacSha1_96 => 1,
+        IntegrityAlgorithm::HmacMd5_128 => 2,
+        IntegrityAlgorithm::Md5_128 => 3,
+        IntegrityAlgorithm::HmacSha256_128 => 4,
+    };
+    named(place, algorithm.value())
 }
 
-pub(crate) fn confidentiality_of(algorithm: ConfidentialityAlgorithm, out: &mut [u8]) -> usize {
-    let number = algorithm.value();
-    match algorithm {
-        ConfidentialityAlgorithm::None => named(b"None", number, out),
-        ConfidentialityAlgorithm::AesCbc128 => named(b"AesCbc128", number, out),
-        ConfidentialityAlgorithm::Xrc4_128 => named(b"Xrc4_128", number, out),
-        ConfidentialityAlgorithm::Xrc4_40 => named(b"Xrc4_40", number, out),
-    }
+pub(crate) fn confidentiality_named(algorithm: ConfidentialityAlgorithm) -> u64 {
+    let place = match algorithm {
+        ConfidentialityAlgorithm::None => 0,
+        ConfidentialityAlgorithm::AesCbc128 => 1,
+        ConfidentialityAlgorithm::Xrc4_128 => 2,
+        ConfidentialityAlgorithm::Xrc4_40 => 3,
+    };
+    named(place, algorithm.value())
 }
 
-fn confidentiality(n: u8, out: &mut [u8]) -> usize {
+pub(crate) fn confidentiality(n: u8) -> u64 {
     let ConfidentialityAnswer::Algorithm(algorithm) = ConfidentialityAlgorithm::try_from(n) else {
-        return none(out);
+        return NONE;
     };
-    confidentiality_of(algorithm, out)
+    confidentiality_named(algorithm)
 }
 
-fn auth_type(n: u8, out: &mut [u8]) -> usize {
+pub(crate) fn auth_type(n: u8) -> u64 {
     let AuthTypeAnswer::AuthType(kind) = AuthType::try_from(n) else {
-        return none(out);
+        return NONE;
     };
-    let mut name = [0u8; 4];
-    let Written::Length(length) = kind.name(&mut name) else {
-        return 0;
+    let place = match kind {
+        AuthType::None => 0,
+        AuthType::MD2 => 1,
+        AuthType::MD5 => 2,
+        AuthType::Key => 3,
     };
-    if 4 < length {
-        return 0;
-    }
-    named(&name[0..length], kind.value(), out)
+    named(place, kind.value())
 }
 
-fn privilege(n: u8, out: &mut [u8]) -> usize {
+pub(crate) fn privilege(n: u8) -> u64 {
     let PrivilegeAnswer::Level(level) = PrivilegeLevel::try_from(n) else {
-        return none(out);
+        return NONE;
     };
-    let number = level.value();
-    match level {
-        PrivilegeLevel::Callback => named(b"Callback", number, out),
-        PrivilegeLevel::User => named(b"User", number, out),
-        PrivilegeLevel::Operator => named(b"Operator", number, out),
-        PrivilegeLevel::Administrator => named(b"Administrator", number, out),
-        PrivilegeLevel::OemProperietary => named(b"OemProperietary", number, out),
-    }
-}
-
-fn strength(a: u8, b: u8, out: &mut [u8]) -> usize {
-    let AuthTypeAnswer::AuthType(a) = AuthType::numbered(a) else {
-        return none(out);
+    let place = match level {
+        PrivilegeLevel::Callback => 0,
+        PrivilegeLevel::User => 1,
+        PrivilegeLevel::Operator => 2,
+        PrivilegeLevel::Administrator => 3,
+        PrivilegeLevel::OemProperietary => 4,
     };
-    let AuthTypeAnswer::AuthType(b) = AuthType::numbered(b) else {
-        return none(out);
-    };
-    match a.compare_strength(b) {
-        Ordering::Less => text(b"Less", 0, out),
-        Ordering::Equal => text(b"Equal", 0, out),
-        Ordering::Greater => text(b"Greater", 0, out),
-    }
-}
-
-fn of_number(word: &[u8], n: u8, out: &mut [u8]) -> usize {
-    if same(word, b"channel_number") {
-        return channel_number(n, out);
-    }
-    if same(word, b"channel") {
-        return channel(n, out);
-    }
-    if same(word, b"unit_low") {
-        return unit(LogicalUnit::from_low_bits(n), out);
-    }
-    if same(word, b"unit") {
-        return unit_of(n, out);
-    }
-    if same(word, b"authentication") {
-        return authentication(n, out);
-    }
-    if same(word, b"integrity") {
-        return integrity(n, out);
-    }
-    if same(word, b"confidentiality") {
-        return confidentiality(n, out);
-    }
-    if same(word, b"auth_type") {
-        return auth_type(n, out);
-    }
-    if same(word, b"privilege") {
-        return privilege(n, out);
-    }
-    0
-}
-
-pub(crate) fn answer_leaf(word: &[u8], bytes: &[u8], out: &mut [u8]) -> usize {
-    if bytes.len() == 1 {
-        return of_number(word, bytes[0], out);
-    }
-    if bytes.len() == 2 {
-        if same(word, b"strength") {
-            return strength(bytes[0], bytes[1], out);
-        }
-    }
-    0
+    named(place, level.value())
 }

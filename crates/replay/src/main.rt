@@ -1,171 +1,152 @@
-// Answers the questions on standard input from the port, a line each, as tests/oracle answers them from the Rust and
-// tests/model those on Set Channel Access and on records with tags.
-ghost use Prim.Native.Nat.{_<_};
+// Answers recorded questions, a line each, from the port: tests/form/README.md has the form of a question and of its answer,
+// tests/oracle and tests/model what the Rust crate and the models answer.
+ghost use Prim.Native.Nat.{_<_, _≤_};
+ghost use lib.ListN.{length};
 use crate::question::answer;
+use base::little::bytes8;
+use base::text::digit;
+use base::written::Written;
+use base::written::place;
 use libc::STDIN_FILENO;
 use libc::STDOUT_FILENO;
 use lines::newline_from;
 
-mod channels;
-mod ciphers;
+mod calls;
 mod leaves;
-mod put;
 mod question;
-mod sessions;
+mod requests;
+mod responses;
 mod settings;
-mod tagged_records;
 
-// More than an answer and its newline take.
-const ROOM: usize = 8192;
+// The most bytes that a question lends.
+const LENT: usize = 2048;
 
-// Between two bytes of the input: how much of a line is held, whether the line is longer than what can be held,
-// how much of the output waits to be written, and whether the input goes on.
-struct Turn {
-    used: usize,
-    long: bool,
-    put: usize,
-    on: bool,
+// What lent bytes are before a call.
+const FILL: u8 = 0xEE;
+
+// The lent bytes as text, and the newline.
+const TEXT: usize = 3 * LENT + 1;
+
+// Byte `j` of hex pairs, one space before each, and a newline.
+fn sign(bytes: &[u8], j: usize) -> u8 {
+    let i = j / 3;
+    if bytes.len() <= i {
+        return b'\n';
+    }
+    match j % 3 {
+        0 => b' ',
+        1 => digit(bytes[i] / 16),
+        _ => digit(bytes[i]),
+    }
 }
 
-fn flushed(put: usize, out: &[u8]) -> usize {
-    if put <= out.len() {
-        io::write_all(STDOUT_FILENO, &out[0..put]);
+// As much of it as the text has room for.
+fn told(bytes: &[u8], text: &mut [u8]) {
+    for j in 0..text.len() {
+        text[j] = sign(bytes, j);
+    }
+    io::write_all(STDOUT_FILENO, text);
+}
+
+fn shown(number: u64, lent: &[u8], room: usize) {
+    let mut pairs = [0u8; 24];
+    told(&bytes8(number as usize), &mut pairs);
+    let mut text = [0u8; TEXT];
+    if room <= lent.len() {
+        if room <= LENT {
+            told(&lent[0..room], &mut text[0..3 * room + 1]);
+        }
+    }
+}
+
+fn answered(line: &[u8]) {
+    let mut lent = [FILL; LENT];
+    let said = answer(line, &mut lent);
+    shown(said.number, &lent, said.room);
+}
+// What a block has of a line goes behind what is held of it. A line that fills all of `line` is too long for a question,
+// whatever is left out of it: 4,096 bytes are no hex pairs.
+fn held(part: &[u8], used: usize, line: &mut [u8]) -> usize {
+    if used <= line.len() {
+        let room = line.len() - used;
+        let Written::Length(n) = place(part, &mut line[used..]) else {
+            return line.len();
+        };
+        if n <= room {
+            return used + n;
+        }
+    }
+    line.len()
+}
+
+fn ended(line: &[u8], used: usize) -> usize {
+    if used <= line.len() {
+        answered(&line[0..used]);
     }
     0
 }
 
-// The answer to the first `used` bytes of `line` goes to `out`, from `put` on. Each test holds in every run; it is
-// there so that nothing has to be proved of the numbers.
-fn answered(line: &[u8], used: usize, put: usize, out: &mut [u8]) -> usize {
-    if used <= line.len() {
-        if put <= out.len() {
-            let room = out.len() - put;
-            let n = answer(&line[0..used], &mut out[put..]);
-            if n <= room {
-                return put + n;
-            }
-        }
-    }
-    put
-}
-
-fn ended(t: Turn, line: &[u8], out: &mut [u8]) -> Turn {
-    let mut put = t.put;
-    if out.len() < ROOM || out.len() - ROOM < put {
-        put = flushed(put, out);
-    }
-    let used = if t.long { 0 } else { t.used };
-    put = answered(line, used, put, out);
-    Turn {
-        used: 0,
-        long: false,
-        put,
-        on: true,
-    }
-}
-
-// A byte of the block goes behind what is held of the line.
-fn kept(block: &[u8], i: usize, t: Turn, line: &mut [u8]) -> Turn {
-    let used = t.used;
-    if i < block.len() {
-        if used < line.len() {
-            line[used] = block[i];
-            return Turn {
-                used: used + 1,
-                long: t.long,
-                put: t.put,
-                on: true,
-            };
-        }
-    }
-    Turn {
-        used,
-        long: true,
-        put: t.put,
-        on: true,
-    }
-}
-
-fn held(block: &[u8], at: usize, end: usize, before: Turn, line: &mut [u8]) -> Turn {
-    let mut t = before;
-    for i in at..end {
-        t = kept(block, i, t, line);
-    }
-    t
-}
-
-fn line_at(block: &[u8], at: usize, end: usize, t: Turn, line: &mut [u8], out: &mut [u8]) -> Turn {
-    let h = held(block, at, end, t, line);
+fn line_at(block: &[u8], at: usize, end: usize, before: usize, line: &mut [u8]) -> usize
+    requires { ⌜ at ≤ end ⌝ }
+    requires { ⌜ end ≤ length (now block) ⌝ }
+{
+    let used = held(&block[at..end], before, line);
     if end < block.len() {
-        return ended(h, line, out);
+        return ended(line, used);
     }
-    h
+    used
 }
 
-fn fed(block: &[u8], before: Turn, line: &mut [u8], out: &mut [u8]) -> Turn {
-    let mut t = before;
+// Where the next line ends.
+fn end_of(block: &[u8], at: usize) -> usize
+    requires { ⌜ at ≤ length (now block) ⌝ }
+    ensures { λ r. ⌜ (at ≤ r) × (r ≤ length (now (block .entry))) ⌝ }
+{
+    newline_from(block, at)
+}
+
+// How much of a line is held behind the block.
+fn fed(block: &[u8], before: usize, line: &mut [u8]) -> usize {
+    let mut used = before;
     let mut at: usize = 0;
     while at < block.len() {
-        let end = newline_from(block, at);
-        t = line_at(block, at, end, t, line, out);
+        let end = end_of(block, at);
+        used = line_at(block, at, end, used, line);
         at = end + 1;
     }
-    t
+    used
 }
 
-// One block of the input; at its end the turn says so.
-fn once(t: Turn, block: &mut [u8], line: &mut [u8], out: &mut [u8]) -> Turn {
-    let got = libc::read(STDIN_FILENO, block);
-    let n = io::count(got, block);
-    if n == 0 {
-        return Turn {
-            used: t.used,
-            long: t.long,
-            put: t.put,
-            on: false,
-        };
-    }
-    fed(&block[0..n], t, line, out)
-}
-
-// The budget after a turn: less by one, or none where the input has ended.
-fn left(budget: u64, on: bool) -> u64
+// The budget after a block of `n` bytes: less by one, or none where the input has ended.
+fn left(budget: u64, n: usize) -> u64
     requires { ⌜ 0 < budget ⌝ }
     ensures { λ r. ⌜ r < budget ⌝ }
 {
-    if on { budget - 1 } else { 0 }
-}
-
-// A last line that no newline ends, and what waits to be written.
-fn finished(t: Turn, line: &[u8], out: &mut [u8]) {
-    if 0 < t.used || t.long {
-        let e = ended(t, line, out);
-        flushed(e.put, out);
-    } else {
-        flushed(t.put, out);
+    if n == 0 {
+        return 0;
     }
+    budget - 1
 }
 
 // A proved loop has to end, and nothing says that the input does: the loop counts its blocks down from a number that
 // no run uses up.
-fn run(block: &mut [u8], line: &mut [u8], out: &mut [u8]) {
-    let mut t = Turn {
-        used: 0,
-        long: false,
-        put: 0,
-        on: true,
-    };
+fn run(block: &mut [u8], line: &mut [u8]) -> usize {
+    let mut used: usize = 0;
     let mut budget: u64 = 0x0100_0000_0000;
     while budget > 0 {
-        t = once(t, block, line, out);
-        budget = left(budget, t.on);
+        let n = io::read_full(STDIN_FILENO, block);
+        used = fed(&block[0..n], used, line);
+        budget = left(budget, n);
     }
-    finished(t, line, out);
+    used
 }
 
 fn main() {
     let mut block = io::large_buffer();
     let mut line = io::buffer();
-    let mut out = io::large_buffer();
-    run(&mut block, &mut line, &mut out);
+    let used = run(&mut block, &mut line);
+    // A last line that no newline ends.
+    if 0 < used {
+        ended(&line, used);
+    }
 }

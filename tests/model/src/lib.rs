@@ -5,6 +5,7 @@
 pub mod collector;
 pub mod history;
 pub mod records;
+pub mod replay;
 pub mod settings;
 mod text;
 
@@ -19,12 +20,10 @@ const MOST_ANSWERS: usize = 128;
 /// Random histories for a long run.
 const MILLION: u32 = 1 << 20;
 
-/// The models' answer to a line, which comes without its newline.
+/// The model of the collector's answer to a line, which comes without its
+/// newline.
 pub fn answer(line: &[u8]) -> String {
-    let other = text::read(line).and_then(|(word, data)| {
-        settings::answer(word, &data).or_else(|| records::answer(word, &data))
-    });
-    other.unwrap_or_else(|| answer_by::<Collector>(line))
+    answer_by::<Collector>(line)
 }
 
 /// The answer of any collector.

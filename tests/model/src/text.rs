@@ -17,11 +17,6 @@ pub fn write(word: &str, data: &[u8]) -> String {
     word.to_string() + &pairs.collect::<String>()
 }
 
-/// Hex pairs in upper case, one space apart.
-pub fn hex(data: &[u8]) -> String {
-    write("", data).trim_start().to_string()
-}
-
 pub fn read(line: &[u8]) -> Option<(&str, Vec<u8>)> {
     let mut parts = std::str::from_utf8(line).ok()?.split(' ');
     let word = parts.next()?;

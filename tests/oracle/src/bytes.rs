@@ -1,10 +1,4 @@
-//! Bytes for all groups: how they are written, and random ones.
-
-/// Hex pairs in upper case, one space apart.
-pub fn hex(data: &[u8]) -> String {
-    let pairs: Vec<String> = data.iter().map(|byte| format!("{byte:02X}")).collect();
-    pairs.join(" ")
-}
+//! Random bytes for all groups.
 
 /// Marsaglia's xorshift64: it needs no dependency, and the same seed gives the
 /// same questions everywhere. A group has its own, so that a change in one

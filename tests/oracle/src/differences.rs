@@ -20,11 +20,11 @@ pub fn activation(data: &[u8]) -> Option<Vec<u8>> {
     (data.len() >= 10).then(|| [&[low], rest].concat())
 }
 
-/// The same of a question.
-pub fn instead(word: &str, data: &[u8]) -> Option<Vec<u8>> {
-    match (word, data) {
+/// The same of the arguments of a function.
+pub fn instead(name: &str, data: &[u8]) -> Option<Vec<u8>> {
+    match (name, data) {
         ("auth_type", &[byte]) => auth_type(byte).map(|low| vec![low]),
-        ("activate" | "activate_written", data) => activation(data),
+        ("ghj_activation", data) => activation(data),
         _ => None,
     }
 }

@@ -7,58 +7,102 @@ include!(concat!(env!("OUT_DIR"), "/core/lib.rs"));
 mod bytes;
 mod channel;
 pub mod differences;
-mod form;
 mod leaves;
 mod session;
 mod suites;
 mod traffic;
 
+use replay_form::{refused, Asked, List, Question, Row, Said, BAD_LINE};
+use std::collections::BTreeMap;
 use std::panic::catch_unwind;
+use std::sync::LazyLock;
+
+/// The functions that questions name. Each group has its own.
+fn rows() -> Vec<Row> {
+    [
+        &leaves::ROWS[..],
+        &channel::ROWS,
+        &session::ROWS,
+        &suites::ROWS,
+    ]
+    .concat()
+}
 
 /// The whole list of questions, in order. Each group adds its own.
 pub fn questions() -> Vec<String> {
-    let mut list = Vec::new();
+    let mut list = List::new(rows());
     leaves::questions(&mut list);
-    form::questions(&mut list);
     channel::questions(&mut list);
     session::questions(&mut list);
     suites::questions(&mut list);
     traffic::questions(&mut list);
-    list
+    list.lines
 }
 
 /// The answer to a line, which comes without its newline: the crate's, to the
-/// question that stands in the place of a listed difference.
+/// arguments that stand in the place of a listed difference.
 pub fn answer(line: &[u8]) -> String {
-    answered(line, |word, data| {
-        let instead = differences::instead(word, data);
-        ask(word, instead.as_deref().unwrap_or(data))
+    answered(line, said)
+}
+
+/// What the crate itself answers to a line.
+pub fn crates_own(line: &[u8]) -> String {
+    answered(line, own)
+}
+
+/// How many of a line's questions have an answer that is not the crate's own, by
+/// the names of their functions; none where these are not exactly the listed
+/// ones.
+pub fn listed(line: &[u8]) -> Option<BTreeMap<&'static str, u64>> {
+    let mut counts = BTreeMap::new();
+    for question in Asked::read(line).iter().flat_map(Asked::questions) {
+        let name = name(&question);
+        let listed = differences::instead(name, &question.arguments).is_some();
+        if listed != (said(&question) != own(&question)) {
+            return None;
+        }
+        if listed {
+            *counts.entry(name).or_default() += 1;
+        }
+    }
+    Some(counts)
+}
+
+/// The crate's code may panic, which is an answer too.
+fn answered(line: &[u8], ask: fn(&Question) -> Said) -> String {
+    catch_unwind(|| replay_form::answer(line, ask)).unwrap_or_else(|_| "panic".to_string())
+}
+
+fn said(question: &Question) -> Said {
+    let instead = differences::instead(name(question), &question.arguments);
+    own(&Question {
+        arguments: instead.unwrap_or_else(|| question.arguments.clone()),
+        ..*question
     })
 }
 
-/// What the crate itself answers to the line.
-pub fn crates_own(line: &[u8]) -> String {
-    answered(line, ask)
+fn own(question: &Question) -> Said {
+    let said = ask(name(question), &question.arguments, question.room.into());
+    said.unwrap_or_else(|| refused(BAD_LINE))
 }
 
-/// Is the answer not the crate's own?
-pub fn is_listed(line: &[u8]) -> bool {
-    form::read(line).is_some_and(|(word, data)| differences::instead(word, &data).is_some())
+/// The function's name, an empty one where no function has this number.
+fn name(question: &Question) -> &'static str {
+    static NAMES: LazyLock<[&str; 256]> = LazyLock::new(|| {
+        let mut names = [""; 256];
+        for row in rows() {
+            names[usize::from(row.number)] = row.name;
+        }
+        names
+    });
+    NAMES[usize::from(question.function)]
 }
 
-fn answered(line: &[u8], ask: fn(&str, &[u8]) -> Option<String>) -> String {
-    let asked = || form::read(line).and_then(|(word, data)| ask(word, &data));
-    match catch_unwind(asked) {
-        Ok(Some(answer)) => answer,
-        Ok(None) => "bad question".to_string(),
-        Err(_) => "panic".to_string(),
-    }
-}
-
-/// Asks the groups in turn; none of them knows a bad question.
-fn ask(word: &str, data: &[u8]) -> Option<String> {
-    leaves::answer(word, data)
-        .or_else(|| channel::answer(word, data))
-        .or_else(|| session::answer(word, data))
-        .or_else(|| suites::answer(word, data))
+/// Asks the groups in turn; none of them knows another number of arguments than
+/// the function takes.
+fn ask(name: &str, data: &[u8], room: usize) -> Option<Said> {
+    leaves::answer(name, data)
+        .or_else(|| channel::answer(name, data))
+        .or_else(|| session::answer(name, data))
+        .or_else(|| suites::answer(name, data, room))
 }

@@ -4,111 +4,134 @@
 use crate::app::auth::{
     ChannelCipherSuites, CipherSuite, ConfidentialityAlgorithm, GetChannelCipherSuites,
 };
-use crate::bytes::{self, Random};
-use crate::channel::{all_numbers, channels, each_byte, hash, read};
-use crate::connection::{Channel, IpmiCommand, Message};
-use crate::form;
-use crate::leaves::named;
+use crate::bytes::Random;
+use crate::channel::{channels, read};
+use crate::connection::{IpmiCommand, Message};
+use crate::leaves::{channel, named, CONFIDENTIALITIES};
+use replay_form::{none, number, refused, written, List, Row, Said};
+
+const TOO_MUCH_DATA: u8 = 2;
+const BAD_INDEX: u8 = 7;
+
+/// What a step writes that gives nothing.
+const NOTHING: u8 = 0xFF;
+
+#[rustfmt::skip]
+pub const ROWS: [Row; 11] = [
+    Row { number: 0x06, name: "ghj_suites", room: |_| 18 },
+    Row { number: 0x07, name: "ghj_suite_numbers", room: |n| n / 5 + 2 },
+    Row { number: 0x0D, name: "suites_part", room: |_| 18 },
+    Row { number: 0x0E, name: "suites_written", room: |_| 18 },
+    Row { number: 0x0F, name: "suite_steps", room: |n| n + 3 },
+    Row { number: 0x15, name: "suites_read", room: |_| 0 },
+    Row { number: 0x28, name: "ghj_suite_algorithms", room: |_| 5 },
+    Row { number: 0x39, name: "suite", room: |_| 0 },
+    Row { number: 0x3A, name: "suite_confidentiality", room: |_| 0 },
+    Row { number: 0x42, name: "ghj_suites_request", room: |_| 5 },
+    Row { number: 0x53, name: "ghj_suite_of", room: |_| 0 },
+];
 
 /// The start of a record, a number it can have, the first suite, the last and
 /// the first number behind it, and a byte that is none of these.
 const ALPHABET: [u8; 6] = [0xC0, 0x00, 0x03, 0x13, 0x14, 0xFF];
 
+/// Whole, and a step at a time.
+const READINGS: [&str; 2] = ["ghj_suite_numbers", "suite_steps"];
+
 /// As many bytes as a controller can say.
 const LONGEST: usize = 1024;
 
-/// Malformed, or with a wrong number of pairs.
-const BAD: [&str; 22] = [
-    "suite",
-    "suite 3",
-    "suite 03 03",
-    "suite_confidentiality",
-    "suite_confidentiality 00 00",
-    "suite_of",
-    "suite_of 01 01",
-    "suite_of 01 01 01 01",
-    "suite_of 01  01 01",
-    "suite_of_all",
-    "suite_of_all 00 00",
-    "suites_request",
-    "suites_request 01",
-    "suites_request 01 02 00",
-    "suites_read 01 00 2",
-    "suites C0 3",
-    "suites_written  C0",
-    "list C0 03 01 41 8",
-    "steps  C0",
-    "reading_all",
-    "reading_all 00 00",
-    "reading_over C0 C0 C0 C0",
+/// Malformed, or with another number of arguments.
+const BAD: [(&str, &str); 17] = [
+    ("suite", ""),
+    ("suite", " 3"),
+    ("suite", " 03 03"),
+    ("suite_confidentiality", ""),
+    ("suite_confidentiality", " 00 00"),
+    ("ghj_suite_of", ""),
+    ("ghj_suite_of", " 01 01"),
+    ("ghj_suite_of", " 01 01 01 01"),
+    ("ghj_suite_of", " 01  01 01"),
+    ("ghj_suites_request", ""),
+    ("ghj_suites_request", " 01"),
+    ("ghj_suites_request", " 01 02 00"),
+    ("suites_read", " 01 00 2"),
+    ("ghj_suites", " C0 3"),
+    ("suites_written", "  C0"),
+    ("ghj_suite_numbers", " C0 03 01 41 8"),
+    ("suite_steps", "  C0"),
 ];
 
-pub fn questions(list: &mut Vec<String>) {
+pub fn questions(list: &mut List) {
     let mut random = Random::new(0x5375_6974_6573_2121);
+    list.heading("the table of suites");
     table_questions(list, &mut random);
+    list.heading("suites, requests");
     request_questions(list, &mut random);
+    list.heading("suites, responses");
     response_questions(list, &mut random);
+    list.heading("suites, lists: all of two bytes, and all of six letters");
     short_questions(list);
+    list.heading("suites, lists of records");
     record_questions(list, &mut random);
-    list.extend(BAD.map(String::from));
+    bad_questions(list);
 }
 
-fn table_questions(list: &mut Vec<String>, random: &mut Random) {
-    all_numbers(list, "suite");
-    all_numbers(list, "suite_confidentiality");
+fn table_questions(list: &mut List, random: &mut Random) {
+    for name in ["suite", "ghj_suite_algorithms", "suite_confidentiality"] {
+        list.sweep(name, &[0], 0);
+    }
 
     // The whole neighbourhood of the table, and its rows with a bit too many.
-    for number in 0..216u8 {
-        let triple = [number / 36, number / 6 % 6, number % 6];
-        list.push(form::write("suite_of", &triple));
-    }
+    list.sweep_over("ghj_suite_of", &[0; 3], 0, 3, &[0, 1, 2, 3, 4, 5]);
     for suite in suites() {
         for place in 0..3 {
             for bit in [0x40, 0x80] {
                 let mut triple = suite.into_suite();
                 triple[place] |= bit;
-                list.push(form::write("suite_of", &triple));
+                list.one("ghj_suite_of", &triple);
             }
         }
     }
     for _ in 0..500 {
-        list.push(form::write("suite_of", &random.bytes(3)));
+        list.one("ghj_suite_of", &random.bytes(3));
     }
+    // All that a record can have: six bits each.
     for first in 0..=0x3F {
-        list.push(form::write("suite_of_all", &[first]));
+        list.sweep_over("ghj_suite_of", &[first, 0, 0], 1, 2, &six_bits());
     }
 }
 
-fn request_questions(list: &mut Vec<String>, random: &mut Random) {
+fn six_bits() -> Vec<u8> {
+    (0..=0x3F).collect()
+}
+
+fn request_questions(list: &mut List, random: &mut Random) {
     for index in [0x00, 0x02, 0x3F, 0x40, 0xFF] {
-        for number in 0..=u8::MAX {
-            list.push(form::write("suites_request", &[number, index]));
-        }
+        list.sweep("ghj_suites_request", &[0, index], 0);
     }
     // The last two are refused for the channel, whatever the index is.
     for number in [0x00, 0x01, 0x0B, 0x0E, 0x0F, 0x0C, 0x10] {
-        for index in 0..=u8::MAX {
-            list.push(form::write("suites_request", &[number, index]));
-        }
+        list.sweep("ghj_suites_request", &[number, 0], 1);
     }
 
-    each_byte(list, "suites_read", &[0x01, 0x00, 0x02]);
-    each_byte(list, "suites_read", &[0x0E, 0x00, 0x3F]);
-    each_byte(list, "suites_read", &[0x00, 0x80, 0x00]);
+    list.each_byte("suites_read", &[0x01, 0x00, 0x02]);
+    list.each_byte("suites_read", &[0x0E, 0x00, 0x3F]);
+    list.each_byte("suites_read", &[0x00, 0x80, 0x00]);
     for length in 0..=6 {
-        list.push(form::write("suites_read", &vec![0x00; length]));
-        list.push(form::write("suites_read", &vec![0xFF; length]));
+        list.one("suites_read", &vec![0x00; length]);
+        list.one("suites_read", &vec![0xFF; length]);
         let command = [0x01, 0x00, 0x02, 0x01, 0x00, 0x02];
-        list.push(form::write("suites_read", &command[..length]));
-        list.push(form::write("suites_read", &random.bytes(length)));
+        list.one("suites_read", &command[..length]);
+        list.one("suites_read", &random.bytes(length));
     }
     for _ in 0..300 {
         let [channel, index] = [random.byte() % 0x14, random.byte() % 0x48];
-        list.push(form::write("suites_read", &[channel, 0x00, index]));
+        list.one("suites_read", &[channel, 0x00, index]);
     }
 }
 
-fn response_questions(list: &mut Vec<String>, random: &mut Random) {
+fn response_questions(list: &mut List, random: &mut Random) {
     // Below, at and above the length that is refused; zeros have to be kept
     // apart from bytes that are not there.
     for length in 0..=40 {
@@ -117,41 +140,58 @@ fn response_questions(list: &mut Vec<String>, random: &mut Random) {
         let cut = records(random, 8)[..length].to_vec();
         let any = random.bytes(length);
         for data in [zeros, ones, cut, any] {
-            list.push(form::write("suites", &data));
-            list.push(form::write("suites_written", &data));
+            ask_for_part(list, &data);
+            list.one("suites_written", &data);
         }
     }
     for _ in 0..300 {
         let length = usize::from(random.byte() % 17);
         let data = random.bytes(length);
-        list.push(form::write("suites", &data));
-        list.push(form::write("suites_written", &data));
+        ask_for_part(list, &data);
+        list.one("suites_written", &data);
     }
     for length in [64, 255, 256, 257, 1000, LONGEST] {
-        list.push(form::write("suites", &random.bytes(length)));
-        list.push(form::write("suites_written", &random.bytes(length)));
+        ask_for_part(list, &random.bytes(length));
+        list.one("suites_written", &random.bytes(length));
     }
 }
 
-/// All strings up to two bytes, and all over the alphabet up to six.
-fn short_questions(list: &mut Vec<String>) {
-    for word in ["list", "steps"] {
-        list.push(form::write(word, &[]));
-        all_numbers(list, word);
-    }
-    all_numbers(list, "reading_all");
+/// By C, and the filled part of the record.
+fn ask_for_part(list: &mut List, data: &[u8]) {
+    list.one("ghj_suites", data);
+    list.one("suites_part", data);
+}
 
-    list.push(form::write("reading_over", &[]));
-    for first in ALPHABET {
-        for second in ALPHABET {
-            for third in ALPHABET {
-                list.push(form::write("reading_over", &[first, second, third]));
-            }
+/// All strings up to two bytes, and all over the alphabet up to six.
+fn short_questions(list: &mut List) {
+    ask_for_reading(list, &[]);
+    for name in READINGS {
+        list.sweep(name, &[0], 0);
+        for first in 0..=u8::MAX {
+            list.sweep(name, &[first, 0], 1);
+        }
+        for (start, running) in starts() {
+            let data = [&start[..], &vec![0; running.into()]].concat();
+            list.sweep_over(name, &data, start.len(), running, &ALPHABET);
         }
     }
 }
 
-fn record_questions(list: &mut Vec<String>, random: &mut Random) {
+/// Strings over the alphabet, and how many more letters stand behind each: one
+/// to three, six together.
+fn starts() -> Vec<(Vec<u8>, u8)> {
+    let mut all = vec![(vec![], 1), (vec![], 2), (vec![], 3)];
+    let mut done = 2;
+    while all[done].0.len() < 3 {
+        for byte in ALPHABET {
+            all.push(([&all[done].0[..], &[byte]].concat(), 3));
+        }
+        done += 1;
+    }
+    all
+}
+
+fn record_questions(list: &mut List, random: &mut Random) {
     // P10: an unknown number, then a suite.
     ask_for_reading(list, &[0xC0, 0x14, 0xC0, 0x03, 0x01, 0x41, 0x81]);
 
@@ -197,9 +237,10 @@ fn record_questions(list: &mut Vec<String>, random: &mut Random) {
     }
 }
 
-fn ask_for_reading(list: &mut Vec<String>, data: &[u8]) {
-    list.push(form::write("list", data));
-    list.push(form::write("steps", data));
+fn ask_for_reading(list: &mut List, data: &[u8]) {
+    for name in READINGS {
+        list.one(name, data);
+    }
 }
 
 /// Records of the table, one behind the other, with the tags of the standard or
@@ -260,158 +301,119 @@ fn pieces(random: &mut Random, length: usize) -> Vec<u8> {
     data
 }
 
-pub fn answer(word: &str, data: &[u8]) -> Option<String> {
-    let answer = match (word, data) {
+fn bad_questions(list: &mut List) {
+    list.heading("suites, bad questions");
+    for (name, text) in BAD {
+        list.text(name, text);
+    }
+    // Sweeps of arguments that are not there, and of too many.
+    list.sweep_over("ghj_suite_of", &[0], 1, 2, &six_bits());
+    list.sweep_over("ghj_suite_of", &[0, 0], 1, 2, &six_bits());
+    list.sweep("ghj_suite_numbers", &[0], 1);
+    list.sweep("suite_steps", &[0, 0], 2);
+    list.sweep_over("suite_steps", &[0xC0; 8], 4, 4, &ALPHABET);
+}
+
+pub fn answer(name: &str, data: &[u8], room: usize) -> Option<Said> {
+    let said = match (name, data) {
         ("suite", &[number]) => suite(number),
+        ("ghj_suite_algorithms", &[number]) => algorithms(number),
         ("suite_confidentiality", &[number]) => suite_confidentiality(number),
-        ("suite_of", &[a, i, c]) => suite_of([a, i, c]),
-        ("suite_of_all", &[first]) => suite_of_all(first),
-        ("suites_request", &[number, index]) => request(number, index),
+        ("ghj_suite_of", &[a, i, c]) => suite_of([a, i, c]),
+        ("ghj_suites_request", &[number, index]) => request(number, index),
         ("suites_read", data) => read(data, commands()),
-        ("suites", data) => response(data),
-        ("suites_written", data) => written(data),
-        ("list", data) => list(data),
-        ("steps", data) => steps(data),
-        ("reading_all", &[first]) => reading_all(first),
-        ("reading_over", data) if data.len() <= 3 => reading_over(data),
+        ("ghj_suites" | "suites_part", data) => part(data, |part| part.to_vec()),
+        // The standard's answer (IPMI 2.0, Table 22-17): the part, as it was read.
+        ("suites_written", data) => part(data, |_| data.to_vec()),
+        ("ghj_suite_numbers", data) => numbers(data),
+        ("suite_steps", data) => steps(data, room),
         _ => return None,
     };
-    Some(answer)
+    Some(said)
 }
 
 fn suites() -> impl Iterator<Item = CipherSuite> {
     (0..=u8::MAX).filter_map(CipherSuite::from_id)
 }
 
-fn suite(number: u8) -> String {
-    let Some(suite) = CipherSuite::from_id(number) else {
-        return "none".to_string();
-    };
-    let [authentication, integrity, confidentiality] = suite.into_suite();
-    // The crate has two ways to a row; one answer can stand for both only while
-    // they agree.
-    assert_eq!(&suite.into_suite(), suite.as_suite());
-    format!(
-        "{}, {authentication} {integrity} {confidentiality}, {:?}, {:?}",
-        suite.id(),
-        suite.authentication(),
-        suite.integrity(),
-    )
+fn of_suite(number: u8, said: impl Fn(CipherSuite) -> Said) -> Said {
+    CipherSuite::from_id(number).map_or_else(none, said)
+}
+
+/// Its number, then those of its authentication and of its integrity.
+fn suite(number: u8) -> Said {
+    of_suite(number, |suite| {
+        let [authentication, integrity] = [suite.authentication().into(), suite.integrity().into()];
+        let bytes = [suite.id(), authentication, integrity, 0];
+        replay_form::number(u32::from_le_bytes(bytes).into())
+    })
+}
+
+fn algorithms(number: u8) -> Said {
+    of_suite(number, |suite| {
+        // The crate has two ways to a row; one answer can stand for both only
+        // while they agree.
+        assert_eq!(&suite.into_suite(), suite.as_suite());
+        written(suite.into_suite())
+    })
 }
 
 /// The standard's answer, not the crate's, which reads the column of the
 /// integrity (IPMI 2.0, the table of suites in 22.15).
-fn suite_confidentiality(number: u8) -> String {
-    match CipherSuite::from_id(number) {
-        Some(suite) => named::<ConfidentialityAlgorithm>(suite.into_suite()[2]),
-        None => "none".to_string(),
-    }
+fn suite_confidentiality(number: u8) -> Said {
+    of_suite(number, |suite| {
+        named::<ConfidentialityAlgorithm>(suite.into_suite()[2], &CONFIDENTIALITIES)
+    })
 }
 
-fn suite_of(triple: [u8; 3]) -> String {
-    match CipherSuite::from_suite(triple) {
-        Some(suite) => suite.id().to_string(),
-        None => "none".to_string(),
-    }
+fn suite_of(triple: [u8; 3]) -> Said {
+    CipherSuite::from_suite(triple).map_or_else(none, |suite| number(suite.id().into()))
 }
 
-/// All triples behind one first number; the others have six bits in a record.
-fn suite_of_all(first: u8) -> String {
-    hash(
-        (0..=0x3F).flat_map(|second| (0..=0x3F).map(move |third| suite_of([first, second, third]))),
-    )
+fn request(number: u8, index: u8) -> Said {
+    channel(number, |channel| {
+        match GetChannelCipherSuites::new(channel, index) {
+            Some(command) => written(Message::from(command).data()),
+            None => refused(BAD_INDEX),
+        }
+    })
 }
 
-fn request(number: u8, index: u8) -> String {
-    let Some(channel) = Channel::new(number) else {
-        return "refused 6".to_string();
-    };
-    match GetChannelCipherSuites::new(channel, index) {
-        Some(command) => bytes::hex(Message::from(command).data()),
-        None => "refused 7".to_string(),
-    }
-}
-
-fn commands() -> impl Iterator<Item = (String, Message)> {
+fn commands() -> impl Iterator<Item = ([u8; 2], Message)> {
     channels().flat_map(|channel| {
         (0..=u8::MAX).filter_map(move |index| {
             let command = GetChannelCipherSuites::new(channel, index)?;
-            Some((format!("{channel}, index {index}"), command.into()))
+            Some(([channel.value(), index], command.into()))
         })
     })
 }
 
-fn response(data: &[u8]) -> String {
-    match part(data) {
-        // In the form of a question, as a part can be empty.
-        Ok(part) => form::write(&format!("{} bytes", part.len()), &part),
-        Err(refused) => refused,
+fn part(data: &[u8], bytes: impl Fn(&ChannelCipherSuites) -> Vec<u8>) -> Said {
+    match GetChannelCipherSuites::parse_success_response(data) {
+        Ok(part) => written(bytes(&part)),
+        // The crate's error has no name outside its module, and one value.
+        Err(_) => refused(TOO_MUCH_DATA),
     }
-}
-
-/// The standard's answer too (IPMI 2.0, Table 22-17): the part, as it was read.
-fn written(data: &[u8]) -> String {
-    match part(data) {
-        Ok(_) => form::write("bytes", data),
-        Err(refused) => refused,
-    }
-}
-
-/// The crate's error has no name outside its module, and one value.
-fn part(data: &[u8]) -> Result<ChannelCipherSuites, String> {
-    GetChannelCipherSuites::parse_success_response(data).map_err(|_| "refused 2".to_string())
 }
 
 /// Up to the first call that gives nothing, as any caller of an iterator reads
 /// it.
-fn list(data: &[u8]) -> String {
-    let mut answer = "suites".to_string();
-    for suite in ChannelCipherSuites::parse_full_data(data) {
-        answer += &format!(" {}", suite.id());
-    }
-    answer
+fn numbers(data: &[u8]) -> Said {
+    let suites = ChannelCipherSuites::parse_full_data(data);
+    written(suites.map(|suite| suite.id()).collect::<Vec<u8>>())
 }
 
-/// Each call by itself. A call takes at least a byte while it reads, so the
-/// last calls come after all that can be read.
-fn steps(data: &[u8]) -> String {
+/// Each call by itself, as many as there are bytes lent.
+fn steps(data: &[u8], room: usize) -> Said {
     let mut reading = ChannelCipherSuites::parse_full_data(data);
-    let steps = (0..data.len() + 3).map(|_| match reading.next() {
-        Some(suite) => suite.id().to_string(),
-        None => "-".to_string(),
-    });
-    steps.collect::<Vec<_>>().join(" ")
-}
-
-fn reading_all(first: u8) -> String {
-    hash((0..=u8::MAX).flat_map(|second| reading(&[first, second])))
-}
-
-fn reading_over(start: &[u8]) -> String {
-    hash(longer(start).iter().flat_map(|data| reading(data)))
-}
-
-/// The string with up to three bytes of the alphabet behind it: the shortest
-/// first, then in the order of the alphabet.
-fn longer(start: &[u8]) -> Vec<Vec<u8>> {
-    let mut all = vec![start.to_vec()];
-    let mut done = 0;
-    while all.len() < 1 + 6 + 36 + 216 {
-        for byte in ALPHABET {
-            all.push([&all[done], &[byte][..]].concat());
-        }
-        done += 1;
-    }
-    all
-}
-
-fn reading(data: &[u8]) -> [String; 2] {
-    [list(data), steps(data)]
+    let steps = (0..room).map(|_| reading.next().map_or(NOTHING, |suite| suite.id()));
+    written(steps.collect::<Vec<u8>>())
 }
 
 #[cfg(test)]
 mod tests {
     use super::*;
+    use replay_form::Asked;
     use std::collections::HashSet;
     use std::panic::catch_unwind;
 
@@ -435,14 +437,24 @@ mod tests {
 
     #[test]
     fn all_strings_over_the_alphabet_are_read() {
-        let mut list = Vec::new();
-        questions(&mut list);
-        let asked = list.iter().filter_map(|line| form::read(line.as_bytes()));
-        let starts = asked.filter(|(word, data)| *word == "reading_over" && data.len() <= 3);
-        let read: HashSet<Vec<u8>> = starts.flat_map(|(_, start)| longer(&start)).collect();
-        // Of up to six bytes, and none other.
-        let all = (0..=6).map(|length| ALPHABET.len().pow(length));
-        assert_eq!(read.len(), all.sum());
-        assert!(read.iter().all(|data| data.len() <= 6));
+        for name in READINGS {
+            let row = ROWS.iter().find(|row| row.name == name).expect("a row");
+            let mut list = List::new(ROWS.to_vec());
+            short_questions(&mut list);
+            let asked = list
+                .lines
+                .iter()
+                .filter_map(|line| Asked::read(line.as_bytes()));
+            let questions = asked.flat_map(|asked| asked.questions());
+            let read: HashSet<Vec<u8>> = questions
+                .filter(|question| question.function == row.number)
+                .map(|question| question.arguments)
+                .filter(|data| data.iter().all(|byte| ALPHABET.contains(byte)))
+                .collect();
+            // Of up to six bytes, and none other.
+            let all = (0..=6).map(|length| ALPHABET.len().pow(length));
+            assert_eq!(read.len(), all.sum());
+            assert!(read.iter().all(|data| data.len() <= 6));
+        }
     }
 }

@@ -1,7 +1,7 @@
 //! Writes the list of questions on the collector, a line each; with the word
 //! `million`, those of a million random histories instead; with the word
-//! `settings`, the list on Set Channel Access; with the word `records`, the one
-//! on records with tags.
+//! `replay`, those on Set Channel Access and on records with tags that
+//! crates/replay has.
 
 use std::io::{self, BufWriter, Write};
 
@@ -10,13 +10,8 @@ fn main() -> io::Result<()> {
     let list = match words.iter().map(String::as_str).collect::<Vec<_>>()[..] {
         [] => collector_model::questions(),
         ["million"] => collector_model::million(),
-        ["settings"] => collector_model::settings::questions(),
-        ["records"] => collector_model::records::questions(),
-        _ => {
-            return Err(io::Error::other(
-                "usage: questions [million|settings|records]",
-            ))
-        }
+        ["replay"] => collector_model::replay::questions(),
+        _ => return Err(io::Error::other("usage: questions [million|replay]")),
     };
     let mut output = BufWriter::new(io::stdout().lock());
     for question in list {

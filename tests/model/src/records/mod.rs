@@ -5,7 +5,7 @@
 mod answers;
 mod questions;
 
-pub use answers::answer;
+pub use answers::{answer, ROWS};
 pub use questions::questions;
 
 pub const NO_FORM: u8 = 9;

@@ -2,7 +2,7 @@
 
 use super::write;
 use crate::history::Random;
-use crate::text;
+use replay_form::List;
 
 /// A start of each kind, a byte with each tag, and what may stand in a number
 /// alone.
@@ -48,95 +48,99 @@ const VENDORS: [u32; 12] = [
     0xFFFF_FFFF,
 ];
 
-/// Malformed, with too few pairs or another owner, or with no such word.
-const BAD: [&str; 24] = [
-    "tag_",
-    "tag_count C0 03 01",
-    "tag_steps 00 00 C0 03 01",
-    "tag_step",
-    "tag_step 00",
-    "tag_step 00 0",
-    "tag_step  00 00 C0 03 01",
-    "tag_step 00 00 C0 03 0G",
-    "tag_number C0 03 01",
-    "tag_numbers C",
-    "tag_numbers  C0 03 01",
-    "tag_numbers C0 03 01 ",
-    "tag_listing C0 03 0",
-    "tag_listing  C0 03 01",
-    "tag_listings C0 03 01",
-    "tag_write",
-    "tag_write 00",
-    "tag_write 00 00 00 00 00 03 01",
-    "tag_write 00 00 00 00 00 03 01 01",
-    "tag_write 00 00 00 00 00 03 01 03 01 01",
-    "tag_write 00 01 00 00 00 03 01 01 01 01",
-    "tag_write 00 00 00 00 01 03 01 01 01 01",
-    "tag_write 02 00 00 00 00 03 01 01 01 01",
-    "tag_write FF F2 1B 00 00 03 01 01 01 01",
+/// Malformed, or with too few arguments.
+const BAD: [(&str, &str); 15] = [
+    ("ghj_tagged_step", ""),
+    ("ghj_tagged_step", " 00"),
+    ("ghj_tagged_step", " 00 0"),
+    ("ghj_tagged_step", "  00 00 C0 03 01"),
+    ("ghj_tagged_step", " 00 00 C0 03 0G"),
+    ("ghj_tagged_numbers", " C"),
+    ("ghj_tagged_numbers", "  C0 03 01"),
+    ("ghj_tagged_numbers", " C0 03 01 "),
+    ("ghj_tagged_listing", " C0 03 0"),
+    ("ghj_tagged_listing", "  C0 03 01"),
+    ("ghj_tagged_write", ""),
+    ("ghj_tagged_write", " 00"),
+    ("ghj_tagged_write", " 00 00 00 00 00 03 01"),
+    ("ghj_tagged_write", " 00 00 00 00 00 03 01 01"),
+    ("ghj_tagged_write", " 00 00 00 00 00 03 01 03 01 01"),
 ];
 
-/// Each begins with `tag_`.
-pub fn questions() -> Vec<String> {
-    let mut list = Vec::new();
+/// No such functions.
+const NONE: [&str; 5] = [
+    " 89 00 00",
+    " 8A 00 00 C0 03 01",
+    " 8B 00 00 00 00 C0 03 01",
+    " 8C 03 00 C0 03 01",
+    " 90 07 00 C0 03 01",
+];
+
+pub fn questions(list: &mut List) {
     let mut random = Random::new(b"Records with tags");
+    list.heading("records with tags, examples");
     for example in EXAMPLES {
-        whole_and_steps(&mut list, example);
+        whole_and_steps(list, example);
     }
-    for letters in strings(3) {
-        list.push(text::write("tag_numbers", &letters));
-        list.push(step(&letters, 0));
-    }
+    list.heading("records with tags, all of three letters");
+    letter_questions(list);
+    list.heading("records with tags, one list and what is near it");
     for length in 0..MIXED.len() {
-        whole(&mut list, &MIXED[..length]);
+        whole(list, &MIXED[..length]);
     }
-    whole_and_steps(&mut list, &MIXED);
+    whole_and_steps(list, &MIXED);
     // Where the authentication byte stands, and an integrity byte.
     for place in [2, 3] {
-        for value in 0..=u8::MAX {
-            let mut changed = MIXED;
-            changed[place] = value;
-            list.push(text::write("tag_numbers", &changed));
-        }
+        list.sweep("ghj_tagged_numbers", &MIXED, place);
     }
+    list.heading("records with tags, random and damaged");
     for _ in 0..100 {
-        random_questions(&mut list, &mut random);
+        random_questions(list, &mut random);
     }
-    long_questions(&mut list);
-    write_questions(&mut list, &mut random);
-    list.extend(BAD.map(String::from));
-    list
+    list.heading("records with tags, long lists");
+    long_questions(list);
+    list.heading("records with tags, written");
+    write_questions(list, &mut random);
+    list.heading("records with tags, bad questions");
+    for (name, text) in BAD {
+        list.text(name, text);
+    }
+    for line in NONE {
+        list.line(line);
+    }
 }
 
-fn step(records: &[u8], position: usize) -> String {
-    let position = (position as u16).to_be_bytes();
-    text::write("tag_step", &[&position, records].concat())
+fn step(list: &mut List, records: &[u8], position: usize) {
+    let position = (position as u16).to_le_bytes();
+    list.one("ghj_tagged_step", &[&position, records].concat());
 }
 
-fn whole(list: &mut Vec<String>, records: &[u8]) {
-    list.push(text::write("tag_numbers", records));
-    list.push(text::write("tag_listing", records));
+fn whole(list: &mut List, records: &[u8]) {
+    list.one("ghj_tagged_numbers", records);
+    list.one("ghj_tagged_listing", records);
 }
 
 /// Steps at every position, at the end and past it.
-fn whole_and_steps(list: &mut Vec<String>, records: &[u8]) {
+fn whole_and_steps(list: &mut List, records: &[u8]) {
     whole(list, records);
     for position in 0..=records.len() + 2 {
-        list.push(step(records, position));
+        step(list, records, position);
     }
     for position in [0xFF, 0x100, 0xFFFF] {
-        list.push(step(records, position));
+        step(list, records, position);
     }
 }
 
-/// All strings of letters, the shortest first.
-fn strings(longest: u32) -> impl Iterator<Item = Vec<u8>> {
-    (0..=longest).flat_map(|length| {
-        (0..7usize.pow(length)).map(move |number| {
-            let digit = |place| LETTERS[number / 7usize.pow(place) % 7];
-            (0..length).rev().map(digit).collect()
-        })
-    })
+/// All strings of letters, read whole and by a step at 0.
+fn letter_questions(list: &mut List) {
+    list.one("ghj_tagged_numbers", &[]);
+    step(list, &[], 0);
+    for length in 1..=3 {
+        let records = vec![0; length.into()];
+        list.sweep_over("ghj_tagged_numbers", &records, 0, length, &LETTERS);
+        let step = [&[0, 0], &records[..]].concat();
+        list.sweep_over("ghj_tagged_step", &step, 2, length, &LETTERS);
+    }
 }
 
 fn below(random: &mut Random, most: usize) -> u8 {
@@ -161,17 +165,17 @@ fn record(random: &mut Random) -> Vec<u8> {
 }
 
 /// A sequence, read at a record's start and anywhere, then two damaged ones.
-fn random_questions(list: &mut Vec<String>, random: &mut Random) {
+fn random_questions(list: &mut List, random: &mut Random) {
     let records: Vec<Vec<u8>> = (0..random.next() % 8 + 1).map(|_| record(random)).collect();
     let start = records[..random.next() % records.len()].concat().len();
     let records = records.concat();
     whole(list, &records);
-    list.push(step(&records, start));
-    list.push(step(&records, random.next() % (records.len() + 2)));
+    step(list, &records, start);
+    step(list, &records, random.next() % (records.len() + 2));
     for _ in 0..2 {
         let damaged = damaged(&records, random);
-        list.push(text::write("tag_numbers", &damaged));
-        list.push(step(&damaged, random.next() % (damaged.len() + 1)));
+        list.one("ghj_tagged_numbers", &damaged);
+        step(list, &damaged, random.next() % (damaged.len() + 1));
     }
 }
 
@@ -191,7 +195,7 @@ fn damaged(records: &[u8], random: &mut Random) -> Vec<u8> {
 }
 
 /// As long as a question can be, so that places have more than a byte.
-fn long_questions(list: &mut Vec<String>) {
+fn long_questions(list: &mut List) {
     let standard = [0xC0, 0x03, 0x01, 0x41, 0x81].repeat(204);
     let least = [0xC0, 0x11, 0x03].repeat(341);
     let own = [0xC1, 0x80, 0xF2, 0x1B, 0x00, 0x03, 0x44].repeat(146);
@@ -207,52 +211,58 @@ fn long_questions(list: &mut Vec<String>) {
         whole(list, &changed);
     }
     for position in [0, 255, 1010, 1015, 1020, 1021] {
-        list.push(step(&standard, position));
-        list.push(step(&one, position));
+        step(list, &standard, position);
+        step(list, &one, position);
     }
 }
 
 fn write_question(
+    list: &mut List,
     [owner, number, authentication]: [u8; 3],
     vendor: u32,
     integrity: &[u8],
     confidentiality: &[u8],
-) -> String {
+) {
     let vendor = vendor.to_le_bytes();
     let rest = [number, authentication, integrity.len() as u8];
     let parts = [&[owner], &vendor[..], &rest, integrity, confidentiality];
-    text::write("tag_write", &parts.concat())
+    list.one("ghj_tagged_write", &parts.concat());
 }
 
-fn write_questions(list: &mut Vec<String>, random: &mut Random) {
+fn write_questions(list: &mut List, random: &mut Random) {
     for (owner, vendor) in [(0, 0), (1, 7154)] {
         for number in NUMBERS {
             let start = [owner, number, 1];
-            list.push(write_question(start, vendor, &[1], &[1]));
+            write_question(list, start, vendor, &[1], &[1]);
             let start = [owner, 3, number];
-            list.push(write_question(start, vendor, &[1], &[1]));
+            write_question(list, start, vendor, &[1], &[1]);
             let start = [owner, 3, 1];
-            list.push(write_question(start, vendor, &[number], &[1]));
-            list.push(write_question(start, vendor, &[1, number], &[]));
-            list.push(write_question(start, vendor, &[1], &[number]));
-            list.push(write_question(start, vendor, &[], &[2, 3, number]));
+            write_question(list, start, vendor, &[number], &[1]);
+            write_question(list, start, vendor, &[1, number], &[]);
+            write_question(list, start, vendor, &[1], &[number]);
+            write_question(list, start, vendor, &[], &[2, 3, number]);
         }
         for integrity in 0..4 {
             for confidentiality in 0..4 {
                 let numbers = [4, 63, 0];
-                list.push(write_question(
+                write_question(
+                    list,
                     [owner, 0xC0, 63],
                     vendor,
                     &numbers[..integrity],
                     &numbers[..confidentiality],
-                ));
+                );
             }
         }
     }
     for vendor in VENDORS {
-        list.push(write_question([1, 0x80, 0], vendor, &[], &[]));
+        write_question(list, [1, 0x80, 0], vendor, &[], &[]);
         // Where a number does not fit either.
-        list.push(write_question([1, 0x80, 64], vendor, &[1], &[1]));
+        write_question(list, [1, 0x80, 64], vendor, &[1], &[1]);
+    }
+    // No such owners.
+    for (owner, vendor) in [(0, 1), (0, 0x100_0000), (2, 0), (0xFF, 7154)] {
+        write_question(list, [owner, 3, 1], vendor, &[1], &[1]);
     }
     for _ in 0..100 {
         let [owner, number] = [2, 256].map(|most| below(random, most));
@@ -265,6 +275,6 @@ fn write_questions(list: &mut Vec<String>, random: &mut Random) {
             integrity.push(64 + below(random, 192));
         }
         let start = [owner, number, authentication];
-        list.push(write_question(start, vendor, &integrity, &confidentiality));
+        write_question(list, start, vendor, &integrity, &confidentiality);
     }
 }

@@ -5,7 +5,7 @@
 mod answers;
 mod questions;
 
-pub use answers::answer;
+pub use answers::{answer, ROWS};
 pub use questions::questions;
 
 use std::collections::HashMap;

@@ -1,7 +1,7 @@
 //! The list of questions on Set Channel Access.
 
 use crate::history::Random;
-use crate::text::write;
+use replay_form::List;
 
 /// Those that a pair has, the reserved one, and numbers that stand for it too.
 const PAIRS: [u8; 6] = [0, 1, 2, 3, 4, 255];
@@ -27,51 +27,63 @@ const BEFORE: [[u8; 10]; 4] = [
     [0x08, 1, 1, 1, 0x10, 0xC8, 0, 1, 0, 0xFF],
 ];
 
-/// Malformed, with a wrong number of pairs, or with no such word.
-const BAD: [&str; 18] = [
-    "set_",
-    "set_access 01 3F 04",
-    "set_reads 01 3F 04",
-    "set_read 1",
-    "set_read  01 3F 04",
-    "set_read 01 3F 0G",
-    "set_read 01 3F 04 ",
-    "set_written 01 3F 4",
-    "set_request 01 00 00 02 00 00 00 4",
-    "set_apply 01 02 02 00 00 00 04 02 00 01 00 04 07 01 00 01 0",
-    "set_read_all",
-    "set_read_all 0",
-    "set_read_all 00 00",
-    "set_read_all 01 00 00",
-    "set_apply_all",
-    "set_apply_all 0",
-    "set_apply_all 00 00",
-    "set_apply_all 01 00 00",
+/// Malformed.
+const BAD: [(&str, &str); 7] = [
+    ("ghj_set_access", " 1"),
+    ("ghj_set_access", "  01 3F 04"),
+    ("ghj_set_access", " 01 3F 0G"),
+    ("ghj_set_access", " 01 3F 04 "),
+    ("set_written", " 01 3F 4"),
+    ("ghj_set_access_request", " 01 00 00 02 00 00 00 4"),
+    (
+        "ghj_set_access_apply",
+        " 01 02 02 00 00 00 04 02 00 01 00 04 07 01 00 01 0",
+    ),
 ];
 
-/// Each begins with `set_`: by this they are known among those of crates/replay.
-pub fn questions() -> Vec<String> {
-    let mut list = Vec::new();
+/// No such functions.
+const NONE: [&str; 3] = [" 8D 00 00", " 8E 0A 00 01 3F 04", " 8F 0A 00 01 3F 04"];
+
+pub fn questions(list: &mut List) {
     let mut random = Random::new(b"Set Channel Access");
-    read_questions(&mut list, &mut random);
-    request_questions(&mut list, &mut random);
-    apply_questions(&mut list, &mut random);
-    wrong_lengths(&mut list, "set_request", 8);
-    wrong_lengths(&mut list, "set_apply", 17);
-    list.extend(BAD.map(String::from));
-    list
+    list.heading("Set Channel Access, requests read");
+    read_questions(list, &mut random);
+    list.heading("Set Channel Access, requests written");
+    request_questions(list, &mut random);
+    list.heading("Set Channel Access, applied");
+    apply_questions(list, &mut random);
+    list.heading("Set Channel Access, bad questions");
+    wrong_lengths(list, "ghj_set_access_request", 8);
+    wrong_lengths(list, "ghj_set_access_apply", 17);
+    for (name, text) in BAD {
+        list.text(name, text);
+    }
+    for line in NONE {
+        list.line(line);
+    }
+    bad_sweeps(list, "ghj_set_access", &[0x01, 0x00, 0x00]);
+    bad_sweeps(list, "set_applied", &applied(0x00));
 }
 
-fn read_questions(list: &mut Vec<String>, random: &mut Random) {
+/// Malformed, of an argument that is not there, of none, and of too many.
+fn bad_sweeps(list: &mut List, name: &str, arguments: &[u8]) {
+    list.sweep(name, arguments, 2);
+    if let Some(line) = list.lines.last_mut() {
+        *line += " 0";
+    }
+    list.sweep(name, arguments, arguments.len());
+    list.sweep_over(name, arguments, 0, 0, &[]);
+    list.sweep_over(name, &[arguments, &[0]].concat(), 0, 4, &[]);
+}
+
+fn read_questions(list: &mut List, random: &mut Random) {
     for background in [
         [0x00, 0x00, 0x00],
         [0x01, 0x3F, 0x04],
         [0x0E, 0x62, 0x84],
         [0x0F, 0xBF, 0x4F],
     ] {
-        for place in 0..3 {
-            each_value(list, "set_read", place, &background);
-        }
+        list.each_byte("ghj_set_access", &background);
     }
     for length in 0..=6 {
         any_length(list, random, length);
@@ -79,25 +91,18 @@ fn read_questions(list: &mut Vec<String>, random: &mut Random) {
     for _ in 0..300 {
         read_and_written(list, &near(random));
     }
-    each_value(list, "set_read_all", 0, &[0]);
-}
-
-/// Every value of one byte, while the others stay.
-fn each_value(list: &mut Vec<String>, word: &str, place: usize, background: &[u8]) {
-    for value in 0..=u8::MAX {
-        let mut data = background.to_vec();
-        data[place] = value;
-        list.push(write(word, &data));
+    for second in 0..=u8::MAX {
+        list.sweep("ghj_set_access", &[0x01, second, 0], 2);
     }
 }
 
-fn read_and_written(list: &mut Vec<String>, request: &[u8]) {
-    list.push(write("set_read", request));
-    list.push(write("set_written", request));
+fn read_and_written(list: &mut List, request: &[u8]) {
+    list.one("ghj_set_access", request);
+    list.one("set_written", request);
 }
 
 /// Some with the bytes of a command, or what fits of them, at one of the ends.
-fn any_length(list: &mut Vec<String>, random: &mut Random, length: usize) {
+fn any_length(list: &mut List, random: &mut Random, length: usize) {
     let first = [0x01, 0x3F, 0x04, 0x00, 0x00, 0x00];
     let last = [0x00, 0x00, 0x00, 0x01, 0x3F, 0x04];
     let twice = [0x0E, 0x62, 0x84, 0x0E, 0x62, 0x84];
@@ -131,7 +136,7 @@ fn below(random: &mut Random, most: usize) -> u8 {
     (random.next() % most) as u8
 }
 
-fn request_questions(list: &mut Vec<String>, random: &mut Random) {
+fn request_questions(list: &mut List, random: &mut Random) {
     // Every channel, mode and limit, also where a pair or the channel is refused.
     for (place, background) in [
         (0, [0x00, 1, 2, 0x02, 0, 1, 0, 0x04]),
@@ -141,24 +146,36 @@ fn request_questions(list: &mut Vec<String>, random: &mut Random) {
         (7, [0x00, 1, 0, 0x07, 1, 1, 0, 0x00]),
         (7, [0x0D, 0, 2, 0x00, 0, 0, 0, 0x00]),
     ] {
-        each_value(list, "set_request", place, &background);
+        list.sweep("ghj_set_access_request", &background, place);
     }
     for pairs in all_pairs() {
-        ask(list, "set_request", &[&[0x0B], &pairs, &RECORDS[1]]);
-        ask(list, "set_request", &[&[0x0C], &pairs, &RECORDS[1]]);
+        ask(
+            list,
+            "ghj_set_access_request",
+            &[&[0x0B], &pairs, &RECORDS[1]],
+        );
+        ask(
+            list,
+            "ghj_set_access_request",
+            &[&[0x0C], &pairs, &RECORDS[1]],
+        );
     }
     for number in 0..64 {
         let start = [0x0F, 1, 1, 0x06];
-        ask(list, "set_request", &[&start, &flags(number), &[0x0A]]);
+        ask(
+            list,
+            "ghj_set_access_request",
+            &[&start, &flags(number), &[0x0A]],
+        );
     }
     for _ in 0..300 {
         let start = [17, 4, 4].map(|most| below(random, most));
-        ask(list, "set_request", &[&start, &record(random)]);
+        ask(list, "ghj_set_access_request", &[&start, &record(random)]);
     }
 }
 
-fn ask(list: &mut Vec<String>, word: &str, parts: &[&[u8]]) {
-    list.push(write(word, &parts.concat()));
+fn ask(list: &mut List, name: &str, parts: &[&[u8]]) {
+    list.one(name, &parts.concat());
 }
 
 fn all_pairs() -> impl Iterator<Item = [u8; 2]> {
@@ -180,14 +197,16 @@ fn record(random: &mut Random) -> [u8; 5] {
     [mode, alerting, per_message, user_level, limit]
 }
 
-fn apply_questions(list: &mut Vec<String>, random: &mut Random) {
+fn apply_questions(list: &mut List, random: &mut Random) {
     for pairs in all_pairs() {
         for number in 0..24 {
             let (own, before) = (RECORDS[number % 6], BEFORE[number / 6]);
-            ask(list, "set_apply", &[&pairs, &own, &before]);
+            ask(list, "ghj_set_access_apply", &[&pairs, &own, &before]);
         }
     }
-    each_value(list, "set_apply_all", 0, &[0]);
+    for second in 0..=u8::MAX {
+        list.sweep("set_applied", &applied(second), 12);
+    }
     // Mode and limit of the command, then those of the settings.
     for (place, pairs) in [
         (2, [0, 1]),
@@ -200,7 +219,7 @@ fn apply_questions(list: &mut Vec<String>, random: &mut Random) {
         (16, [0, 1]),
     ] {
         let background = [&pairs[..], &RECORDS[1], &BEFORE[1]].concat();
-        each_value(list, "set_apply", place, &background);
+        list.sweep("ghj_set_access_apply", &background, place);
     }
     // The settings' flags, of both kinds, left and set.
     for number in 0..64 {
@@ -208,20 +227,33 @@ fn apply_questions(list: &mut Vec<String>, random: &mut Random) {
         let [d, e, f] = flags(63 - number);
         let before = [0x02, a, b, c, 0x04, 0x03, d, e, f, 0x02];
         for pairs in [[0, 1], [1, 2], [2, 0]] {
-            ask(list, "set_apply", &[&pairs, &RECORDS[3], &before]);
+            ask(
+                list,
+                "ghj_set_access_apply",
+                &[&pairs, &RECORDS[3], &before],
+            );
         }
     }
     for _ in 0..500 {
         let pairs = [4, 4].map(|most| below(random, most));
         let before = [256; 10].map(|most| below(random, most));
-        ask(list, "set_apply", &[&pairs, &record(random), &before]);
+        ask(
+            list,
+            "ghj_set_access_apply",
+            &[&pairs, &record(random), &before],
+        );
     }
 }
 
-/// Fewer and more pairs than a question has.
-fn wrong_lengths(list: &mut Vec<String>, word: &str, right: usize) {
+/// Settings, and a request whose third byte is clear.
+fn applied(second: u8) -> Vec<u8> {
+    [&BEFORE[1][..], &[0x01, second, 0x00]].concat()
+}
+
+/// Fewer and more arguments than the function takes.
+fn wrong_lengths(list: &mut List, name: &str, right: usize) {
     for length in (0..right).chain(right + 1..right + 4) {
-        list.push(write(word, &vec![0x01; length]));
-        list.push(write(word, &vec![0x0C; length]));
+        list.one(name, &vec![0x01; length]);
+        list.one(name, &vec![0x0C; length]);
     }
 }

@@ -1,9 +1,9 @@
 //! Reads questions, a line each, and holds the recorded answers in the named
-//! file against what the crate itself answers. Counts by their words the
-//! questions where the two differ; fails where these are not exactly the listed
-//! ones.
+//! file against what the crate itself answers. Counts by their functions the
+//! questions, those of sweeps too, where the two differ; fails where these are
+//! not exactly the listed ones.
 
-use oracle_core::{crates_own, is_listed};
+use oracle_core::{answer, crates_own, listed};
 use std::collections::BTreeMap;
 use std::io::{self, BufRead};
 use std::process::ExitCode;
@@ -14,26 +14,30 @@ fn main() -> io::Result<ExitCode> {
     let path = std::env::args().nth(1).expect("the file of the answers");
     let recorded = std::fs::read_to_string(path)?;
     let mut recorded = recorded.lines();
-    let mut counts: BTreeMap<String, u64> = BTreeMap::new();
+    let mut all: BTreeMap<&str, u64> = BTreeMap::new();
     let mut faults = 0;
     for line in io::stdin().lock().split(b'\n') {
         let line = line?;
-        let differs = recorded.next() != Some(&crates_own(&line));
-        if differs != is_listed(&line) {
-            faults += 1;
-            eprintln!("differences: {}", String::from_utf8_lossy(&line));
-        }
-        if differs {
-            let word = line.split(|&byte| byte == b' ').next().unwrap_or_default();
-            *counts
-                .entry(String::from_utf8_lossy(word).into())
-                .or_default() += 1;
+        let recorded = recorded.next().unwrap_or_default();
+        let differs = recorded != crates_own(&line);
+        // A sweep has one answer for many: it has to be the one in which no
+        // other differs.
+        match listed(&line) {
+            Some(counts) if differs != counts.is_empty() && recorded == answer(&line) => {
+                for (name, count) in counts {
+                    *all.entry(name).or_default() += count;
+                }
+            }
+            _ => {
+                faults += 1;
+                eprintln!("differences:{}", String::from_utf8_lossy(&line));
+            }
         }
     }
-    let counts: Vec<String> = counts
+    let all: Vec<String> = all
         .iter()
-        .map(|(word, count)| format!("{word} {count}"))
+        .map(|(name, count)| format!("{name} {count}"))
         .collect();
-    println!("{}", counts.join(", "));
+    println!("{}", all.join(", "));
     Ok(ExitCode::from(u8::from(faults > 0)))
 }

@@ -2,22 +2,21 @@ use borrow.Author.Needs.{needs}
 use mathlib.Core.Path.{_≡_}
 use Prim.Native.Nat.{_-_}
 use lib.ListN.{length}
-use Rattle.replay.proofs.ciphers.steps.Statement.{statement}
-use Rattle.replay.proofs.ciphers.steps.Tie as tie
+use Rattle.replay.proofs.question.hash_of.Statement.{statement}
+use Rattle.replay.proofs.question.hash_of.Tie as tie
 
 abbrev Inv-loop : tie.InvT-loop
-Inv-loop list out₀ w₀ i₀ i-end out w i = length out ≡ length out₀
+Inv-loop count letters begin end question₀ hash₀ i₀ question hash i = length question ≡ length question₀
 
 abbrev μ-loop : tie.MeasureT-loop
-μ-loop list out₀ w₀ i₀ i-end out w i = i-end - i
+μ-loop count letters begin end question₀ hash₀ i₀ question hash i = count - i
 
-pub steps-spec : {M : Type 1} → statement M
-steps-spec =
+pub hash-of-spec : {M : Type 1} → statement M
+hash-of-spec =
     tie.close
     (tie.spec
     Inv-loop
     μ-loop
-    (λ c. search needs)
     (λ c. search needs)
     (λ c. search needs)
     (λ c. search needs)

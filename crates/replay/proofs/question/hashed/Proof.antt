@@ -1,16 +1,17 @@
 use borrow.Author.Needs.{needs}
 use Prim.Native.Nat.{_-_, _≤_}
-use Rattle.replay.proofs.ciphers.all.Statement.{statement}
-use Rattle.replay.proofs.ciphers.all.Tie as tie
+use lib.ListN.{length}
+use Rattle.replay.proofs.question.hashed.Statement.{statement}
+use Rattle.replay.proofs.question.hashed.Tie as tie
 
 abbrev Inv-loop : tie.InvT-loop
-Inv-loop many start count out hash₀ i₀ hash i = 0 ≤ i
+Inv-loop bytes end before hash₀ i₀ hash i = end ≤ length bytes
 
 abbrev μ-loop : tie.MeasureT-loop
-μ-loop many start count out hash₀ i₀ hash i = count - i
+μ-loop bytes end before hash₀ i₀ hash i = end - i
 
-pub all-spec : {M : Type 1} → statement M
-all-spec =
+pub hashed-spec : {M : Type 1} → statement M
+hashed-spec =
     tie.close
     (tie.spec
     Inv-loop

@@ -1,0 +1,306 @@
+// The functions by their numbers: tests/oracle/README.md and tests/model/README.md have a row for each. A question of any other
+// number, or with another number of arguments, is refused 14.
+ghost use Prim.Native.Nat.{_<_};
+use crate::leaves::authentication;
+use crate::leaves::auth_type;
+use crate::leaves::channel;
+use crate::leaves::channel_number;
+use crate::leaves::confidentiality;
+use crate::leaves::integrity;
+use crate::leaves::privilege;
+use crate::leaves::unit;
+use crate::leaves::unit_low;
+use crate::requests::access_read;
+use crate::requests::activation_read;
+use crate::requests::capabilities_read;
+use crate::requests::challenge_name;
+use crate::requests::challenge_read;
+use crate::requests::info_read;
+use crate::requests::suites_read;
+use crate::responses::access_written;
+use crate::responses::best_auth;
+use crate::responses::capabilities_written;
+use crate::responses::info_written;
+use crate::responses::is_disabled;
+use crate::responses::suite;
+use crate::responses::suite_confidentiality;
+use crate::responses::suite_steps;
+use crate::responses::suites_part;
+use crate::responses::suites_written;
+use crate::settings::set_applied;
+use crate::settings::set_written;
+use base::little::number3;
+use base::little::number4;
+use base::refusal::Refusal;
+use base::written::Written;
+use base::written::place;
+use capi::display::ghj_auth_type_name;
+use capi::display::ghj_channel_text;
+use capi::display::ghj_limit_text;
+use capi::display::ghj_medium_text;
+use capi::display::ghj_mode_text;
+use capi::display::ghj_protocol_text;
+use capi::display::ghj_session_support_text;
+use capi::ghj_access;
+use capi::ghj_activation;
+use capi::ghj_capabilities;
+use capi::ghj_challenge;
+use capi::ghj_info;
+use capi::ghj_suite_numbers;
+use capi::ghj_suites;
+use capi::requests::ghj_access_request;
+use capi::requests::ghj_activation_request;
+use capi::requests::ghj_capabilities_request;
+use capi::requests::ghj_challenge_request;
+use capi::requests::ghj_info_request;
+use capi::requests::ghj_suites_request;
+use capi::settings::ghj_set_access;
+use capi::settings::ghj_set_access_apply;
+use capi::settings::ghj_set_access_request;
+use capi::strength::ghj_compare_strength;
+use capi::table::ghj_suite_algorithms;
+use capi::table::ghj_suite_of;
+use capi::tagged_records::ghj_tagged_listing;
+use capi::tagged_records::ghj_tagged_numbers;
+use capi::tagged_records::ghj_tagged_step;
+use capi::tagged_records::ghj_tagged_write;
+
+// Refusal 14, as C gets it.
+pub(crate) const BAD: u64 = 0x8000_0000_0000_000E;
+
+// GHJ_NONE.
+pub(crate) const NONE: u64 = 0x2_0000;
+
+// As C gets it. No refusal that is asked for here carries more than a byte.
+pub(crate) fn refused(refusal: Refusal) -> u64 {
+    let carried = refusal.carried();
+    if 255 < carried {
+        return BAD;
+    }
+    0x8000_0000_0000_0000 + (refusal.number() as u64) + 256 * (carried as u64)
+}
+
+pub(crate) fn code(written: Written) -> u64 {
+    match written {
+        Written::Length(length) => length as u64,
+        Written::Refused(refusal) => refused(refusal),
+    }
+}
+
+fn of_response(f: u8, a: &[u8], out: &mut [u8]) -> u64 {
+    match f {
+        0x01 => ghj_access(a, out),
+        0x02 => ghj_info(a, out),
+        0x03 => ghj_capabilities(a, out),
+        0x04 => ghj_challenge(a, out),
+        0x05 => ghj_activation(a, out),
+        0x06 => ghj_suites(a, out),
+        0x07 => ghj_suite_numbers(a, out),
+        0x08 => is_disabled(a),
+        0x09 => best_auth(a),
+        0x0A => access_written(a, out),
+        0x0B => info_written(a, out),
+        0x0C => capabilities_written(a, out),
+        0x0D => suites_part(a, out),
+        0x0E => suites_written(a, out),
+        0x0F => suite_steps(a, out),
+        _ => BAD,
+    }
+}
+
+fn of_request(f: u8, a: &[u8], out: &mut [u8]) -> u64 {
+    match f {
+        0x10 => access_read(a),
+        0x11 => info_read(a),
+        0x12 => capabilities_read(a),
+        0x13 => challenge_read(a, out),
+        0x14 => activation_read(a, out),
+        0x15 => suites_read(a),
+        _ => BAD,
+    }
+}
+
+fn of_number(f: u8, n: u8, out: &mut [u8]) -> u64 {
+    match f {
+        0x20 => ghj_channel_text(n, out),
+        0x21 => ghj_mode_text(n, out),
+        0x22 => ghj_limit_text(n, out),
+        0x23 => ghj_medium_text(n, out),
+        0x24 => ghj_protocol_text(n, out),
+        0x25 => ghj_session_support_text(n, out),
+        0x26 => ghj_auth_type_name(n, out),
+        0x27 => ghj_info_request(n, out),
+        0x28 => ghj_suite_algorithms(n, out),
+        _ => BAD,
+    }
+}
+
+fn of_leaf(f: u8, n: u8) -> u64 {
+    match f {
+        0x30 => channel_number(n),
+        0x31 => channel(n),
+        0x32 => unit_low(n),
+        0x33 => unit(n),
+        0x34 => authentication(n),
+        0x35 => integrity(n),
+        0x36 => confidentiality(n),
+        0x37 => auth_type(n),
+        0x38 => privilege(n),
+        0x39 => suite(n),
+        0x3A => suite_confidentiality(n),
+        _ => BAD,
+    }
+}
+
+fn of_two(f: u8, n: u8, m: u8, out: &mut [u8]) -> u64 {
+    match f {
+        0x40 => ghj_access_request(n, m, out),
+        0x41 => ghj_capabilities_request(n, m, out),
+        0x42 => ghj_suites_request(n, m, out),
+        0x43 => ghj_compare_strength(n, m),
+        _ => BAD,
+    }
+}
+
+fn sixteen(a: &[u8]) -> [u8; 16] {
+    let mut bytes = [0u8; 16];
+    place(a, &mut bytes);
+    bytes
+}
+
+fn activation_request(a: &[u8], out: &mut [u8]) -> u64 {
+    if a.len() != 22 {
+        return BAD;
+    }
+    let challenge = sixteen(&a[2..18]);
+    let sequence = number4(a[18], a[19], a[20], a[21]);
+    ghj_activation_request(a[0], a[1], &challenge, sequence, out)
+}
+
+fn suite_of(a: &[u8]) -> u64 {
+    if a.len() != 3 {
+        return BAD;
+    }
+    ghj_suite_of(a[0], a[1], a[2])
+}
+
+fn of_some(f: u8, a: &[u8], out: &mut [u8]) -> u64 {
+    if a.len() == 0 {
+        return BAD;
+    }
+    match f {
+        0x50 => ghj_challenge_request(a[0], &a[1..], out),
+        0x51 => challenge_name(a[0], &a[1..], out),
+        0x52 => activation_request(a, out),
+        0x53 => suite_of(a),
+        _ => BAD,
+    }
+}
+
+fn five(a: &[u8]) -> [u8; 5] {
+    let mut bytes = [0u8; 5];
+    place(a, &mut bytes);
+    bytes
+}
+
+pub(crate) fn ten(a: &[u8]) -> [u8; 10] {
+    let mut bytes = [0u8; 10];
+    place(a, &mut bytes);
+    bytes
+}
+
+fn set_access_request(a: &[u8], out: &mut [u8]) -> u64 {
+    if a.len() != 8 {
+        return BAD;
+    }
+    let access = five(&a[3..8]);
+    ghj_set_access_request(a[0], a[1], a[2], &access, out)
+}
+
+fn set_access_apply(a: &[u8], out: &mut [u8]) -> u64 {
+    if a.len() != 17 {
+        return BAD;
+    }
+    let access = five(&a[2..7]);
+    let settings = ten(&a[7..17]);
+    ghj_set_access_apply(a[0], a[1], &access, &settings, out)
+}
+
+fn tagged_step(a: &[u8], out: &mut [u8]) -> u64 {
+    if a.len() < 2 {
+        return BAD;
+    }
+    ghj_tagged_step(&a[2..], number3(a[0], a[1], 0) as usize, out)
+}
+
+pub(crate) fn wide(byte: u8) -> usize
+    ensures { λ r. ⌜ r < 256 ⌝ }
+{
+    byte as usize
+}
+
+// The record of the eight bytes before the algorithms' numbers.
+fn tagged_record(a: &[u8], integrity: &[u8], confidentiality: &[u8], out: &mut [u8]) -> u64 {
+    if a.len() != 8 {
+        return BAD;
+    }
+    let vendor = number4(a[1], a[2], a[3], a[4]);
+    ghj_tagged_write(a[0], vendor, a[5], a[6], integrity, confidentiality, out)
+}
+
+// The eighth byte says how many of the numbers behind it are those of the integrity.
+fn tagged_write(a: &[u8], out: &mut [u8]) -> u64 {
+    if a.len() < 8 {
+        return BAD;
+    }
+    let end = 8 + wide(a[7]);
+    if a.len() < end {
+        return BAD;
+    }
+    tagged_record(&a[0..8], &a[8..end], &a[end..], out)
+}
+
+// What the models answer.
+fn of_model(f: u8, a: &[u8], out: &mut [u8]) -> u64 {
+    match f {
+        0x80 => set_access_request(a, out),
+        0x81 => ghj_set_access(a, out),
+        0x82 => set_written(a, out),
+        0x83 => set_access_apply(a, out),
+        0x84 => set_applied(a, out),
+        0x85 => tagged_step(a, out),
+        0x86 => ghj_tagged_numbers(a, out),
+        0x87 => ghj_tagged_listing(a, out),
+        0x88 => tagged_write(a, out),
+        _ => BAD,
+    }
+}
+
+fn of_numbers(f: u8, a: &[u8], out: &mut [u8]) -> u64 {
+    if a.len() == 1 {
+        if f < 0x30 {
+            return of_number(f, a[0], out);
+        }
+        return of_leaf(f, a[0]);
+    }
+    if a.len() == 2 {
+        return of_two(f, a[0], a[1], out);
+    }
+    BAD
+}
+
+pub(crate) fn call(f: u8, a: &[u8], out: &mut [u8]) -> u64 {
+    if f < 0x10 {
+        return of_response(f, a, out);
+    }
+    if f < 0x20 {
+        return of_request(f, a, out);
+    }
+    if f < 0x50 {
+        return of_numbers(f, a, out);
+    }
+    if f < 0x80 {
+        return of_some(f, a, out);
+    }
+    of_model(f, a, out)
+}
