@@ -5,18 +5,16 @@ use Prim.Native.Nat.{ℕ, zero, suc, _+_, _*_, _/_, _%_, _^_, _<_}
 use native.Mathlib.Nat.{pow-suc, div-lt-iff-lt-mul}
 use native.Mathlib.Omega.{arith}
 use lib.Dec.{lit<}
-use lib.ListN.{length, getD}
+use lib.ListN.{length, getD, take, drop}
+use mir.Syntax.{w8}
+use mir.Val.{Fits}
+pub use Rattle.base.specs.Field.{Bytes}
 use Rattle.base.specs.Little.{little, littleBytes}
 
 -- a number that fits comes back from its bytes
 pub number-back : (width n : ℕ) → n < 256 ^ width → little (littleBytes width n) ≡ n
 number-back zero n h = let z : n < 1 = h in omega arith
 number-back (suc width) n h = rw (number-back width (n / 256) (div-lt-iff-lt-mul (lit< tt) .1 (rw pow-suc at h))) (omega arith)
-
--- every element is a byte
-abbrev pub Bytes : List ℕ → Type 0
-Bytes [] = Unit {0}
-Bytes (byte ∷ bytes) = (byte < 256) × Bytes bytes
 
 -- bytes come back from their number
 pub bytes-back : (bytes : List ℕ) → Bytes bytes → littleBytes (length bytes) (little bytes) ≡ bytes
@@ -30,6 +28,27 @@ bytes-back (byte ∷ bytes) h =
 pub number-fits : (bytes : List ℕ) → Bytes bytes → little bytes < 256 ^ length bytes
 number-fits [] h = lit< tt
 number-fits (byte ∷ bytes) h = let l = number-fits bytes (h .1) in rw pow-suc (omega arith)
+
+-- the machine's elements of eight bits are bytes
+pub are-bytes : (bytes : List ℕ) → ((k : ℕ) → Fits w8 (getD bytes k 0)) → Bytes bytes
+are-bytes [] h = tt
+are-bytes (byte ∷ bytes) h = (h 0 .fits, are-bytes bytes λ k. h (suc k))
+
+-- parts of a string of bytes
+
+pub bytes-drop : (k : ℕ) (bytes : List ℕ) → Bytes bytes → Bytes (drop k bytes)
+bytes-drop zero bytes h = h
+bytes-drop (suc k) [] h = tt
+bytes-drop (suc k) (byte ∷ bytes) h = bytes-drop k bytes (h .1)
+
+pub bytes-take : (k : ℕ) (bytes : List ℕ) → Bytes bytes → Bytes (take k bytes)
+bytes-take zero bytes h = tt
+bytes-take (suc k) [] h = tt
+bytes-take (suc k) (byte ∷ bytes) h = (h .0, bytes-take k bytes (h .1))
+
+pub bytes-append : (first second : List ℕ) → Bytes first → Bytes second → Bytes (first ++ second)
+bytes-append [] second h g = g
+bytes-append (byte ∷ first) second h g = (h .0, bytes-append first second (h .1) g)
 
 -- a byte at any place; past the end it is 0
 pub a-byte : (bytes : List ℕ) → Bytes bytes → (k : ℕ) → getD bytes k 0 < 256
