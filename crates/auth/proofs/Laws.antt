@@ -7,7 +7,7 @@ use mathlib.Core.Option.{Option, none, some}
 use Prim.Native.Nat.{ℕ, _≤_, _<_}
 use native.Mathlib.Omega.{arith}
 use borrow.Author.Tests.{ltb-true, ltb-false, lt-ltb, le-ltb}
-use lib.Dec.{ltb, lit≤}
+use lib.Dec.{lit<, ltb, lit≤}
 use lib.ListN.{getD}
 use Rattle.base.specs.Choice.{if_then_else_, _=?_}
 use Rattle.base.specs.Field.{bits}
@@ -42,6 +42,14 @@ privilege-iff n l = nibble-iff (bits 0 4 n) l
 
 pub no-privilege : (n : ℕ) → (1 ≡ n → ⊥) → (2 ≡ n → ⊥) → (3 ≡ n → ⊥) → (4 ≡ n → ⊥) → (5 ≡ n → ⊥) → named privileges n ≡ none
 no-privilege n a b c d e = unnamed privilegeValue privileges nibble-iff n (elim [ Callback ↦ a | User ↦ b | Operator ↦ c | Administrator ↦ d | OemProperietary ↦ e ])
+
+-- the number of each is a byte, which names it
+
+pub auth-again : (a : AuthType) → (authTypeValue a < 256) × (authTypeOf (authTypeValue a) ≡ some a)
+auth-again = elim [ None ↦ (lit< tt, refl) | MD2 ↦ (lit< tt, refl) | MD5 ↦ (lit< tt, refl) | Key ↦ (lit< tt, refl) ]
+
+pub privilege-again : (l : PrivilegeLevel) → (privilegeValue l < 256) × (privilegeOf (privilegeValue l) ≡ some l)
+privilege-again = elim [ Callback ↦ (lit< tt, refl) | User ↦ (lit< tt, refl) | Operator ↦ (lit< tt, refl) | Administrator ↦ (lit< tt, refl) | OemProperietary ↦ (lit< tt, refl) ]
 
 -- The strength order.
 

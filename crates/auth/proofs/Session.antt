@@ -1,15 +1,13 @@
 -- Laws that the session's messages share: sixteen bytes, a session's number.
 use mathlib.Core.Path.{_≡_, refl, sym, _∙_}
-use mathlib.Core.Bool.{Bool, true, false}
-use mathlib.Core.List.{List, []}
+use mathlib.Core.List.{List}
 use Prim.Native.Nat.{ℕ}
 use lib.Dec.{eqb}
 use lib.ListN.{length, replicate, length-replicate}
-use Rattle.base.specs.Choice.{if_then_else_}
-use Rattle.base.specs.Outcome.{accepted, refused, _>>=_}
+use Rattle.base.specs.Outcome.{accepted, _>>=_}
 use Rattle.base.specs.Written.{Writes}
 use Rattle.base.specs.declared.written.Written.{Written}
-use Rattle.base.proofs.Outcome.{Only}
+use Rattle.base.proofs.Outcome.{Only, only-else, only-steps}
 use Rattle.base.proofs.written.Laws.{filled}
 use Rattle.auth.specs.Session.{nonZero}
 
@@ -19,8 +17,4 @@ sixteen part after h w = filled w (h ∙ sym (length-replicate {A = ℕ} 16 0))
 
 -- a message with a session's number is refused by 9 alone
 pub non-zero-only : (n : ℕ) (message : ℕ → List ℕ) → Only 9 (nonZero 9 n >>= λ id. accepted (message id))
-non-zero-only n message = go (eqb n 0)
-  where
-    go : (b : Bool) → Only 9 ((if b then refused 9 [] else accepted n) >>= λ id. accepted (message id))
-    go true = refl
-    go false = refl
+non-zero-only n message = only-steps 9 (nonZero 9 n) _ (only-else 9 (eqb n 0) (accepted n) refl) λ id. refl

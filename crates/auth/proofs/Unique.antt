@@ -33,7 +33,7 @@ pub auth-type-value-unique : Unique p.AuthType.value.Kinds.ps p.AuthType.value.K
 auth-type-value-unique κs a ok z z′ w w′ q q′ = (both q q′, refl)
 
 pub auth-type-name-unique : Unique p.AuthType.name.Kinds.ps p.AuthType.name.Kinds.r p.AuthType.name.Reads.Asked p.AuthType.name.Reads.Learnt
-auth-type-name-unique κs a ok z z′ w w′ q q′ = writer q q′
+auth-type-name-unique κs a ok z z′ w w′ q q′ = writer 1 q q′
 
 pub auth-type-compare-strength-unique : Unique p.AuthType.compare_strength.Kinds.ps p.AuthType.compare_strength.Kinds.r p.AuthType.compare_strength.Reads.Asked p.AuthType.compare_strength.Reads.Learnt
 auth-type-compare-strength-unique κs a ok z z′ w w′ q q′ = (both q q′, refl)
@@ -57,7 +57,7 @@ pub get-channel-authentication-capabilities-numbered-unique : Unique p.get_chann
 get-channel-authentication-capabilities-numbered-unique κs a ok z z′ w w′ q q′ = (capabilities-command-one z z′ (both q q′), refl)
 
 pub get-channel-authentication-capabilities-write-unique : Unique p.get_channel_authentication_capabilities.GetChannelAuthenticationCapabilities.write.Kinds.ps p.get_channel_authentication_capabilities.GetChannelAuthenticationCapabilities.write.Kinds.r p.get_channel_authentication_capabilities.GetChannelAuthenticationCapabilities.write.Reads.Asked p.get_channel_authentication_capabilities.GetChannelAuthenticationCapabilities.write.Reads.Learnt
-get-channel-authentication-capabilities-write-unique κs a ok z z′ w w′ q q′ = writer q q′
+get-channel-authentication-capabilities-write-unique κs a ok z z′ w w′ q q′ = writer 1 q q′
 
 pub get-channel-authentication-capabilities-read-unique : Unique p.get_channel_authentication_capabilities.GetChannelAuthenticationCapabilities.read.Kinds.ps p.get_channel_authentication_capabilities.GetChannelAuthenticationCapabilities.read.Kinds.r p.get_channel_authentication_capabilities.GetChannelAuthenticationCapabilities.read.Reads.Asked p.get_channel_authentication_capabilities.GetChannelAuthenticationCapabilities.read.Reads.Learnt
 get-channel-authentication-capabilities-read-unique κs a ok z z′ w w′ q q′ = (capabilities-command-one z z′ (both q q′), refl)
@@ -69,4 +69,4 @@ pub channel-authentication-capabilities-best-auth-unique : Unique p.get_channel_
 channel-authentication-capabilities-best-auth-unique κs a ok z z′ w w′ q q′ = (auth-type-one z z′ (both q q′), refl)
 
 pub channel-authentication-capabilities-write-unique : Unique p.get_channel_authentication_capabilities.ChannelAuthenticationCapabilities.write.Kinds.ps p.get_channel_authentication_capabilities.ChannelAuthenticationCapabilities.write.Kinds.r p.get_channel_authentication_capabilities.ChannelAuthenticationCapabilities.write.Reads.Asked p.get_channel_authentication_capabilities.ChannelAuthenticationCapabilities.write.Reads.Learnt
-channel-authentication-capabilities-write-unique κs a ok z z′ w w′ q q′ = writer q q′
+channel-authentication-capabilities-write-unique κs a ok z z′ w w′ q q′ = writer 1 q q′

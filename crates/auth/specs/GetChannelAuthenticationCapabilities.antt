@@ -4,13 +4,14 @@ use mathlib.Core.Bool.{Bool, true, false, not}
 use mathlib.Core.List.{List, [], _∷_}
 use mathlib.Core.Option.{Option}
 use lib.ListN.{length}
-use Rattle.auth.specs.Auth.{bestOf, privileges, privilegeValue}
+use Rattle.auth.specs.Auth.{privileges, privilegeValue, bestOf}
 use Rattle.base.specs.Choice.{if_then_else_, _<?_, _=?_}
 use Rattle.base.specs.Connection.{channelOf, channelField}
-use Rattle.base.specs.Field.{byte, flag, flags}
+use Rattle.base.specs.Field.{Array, Bytes, byte, flag, flags}
 use Rattle.base.specs.Named.{named, required}
-use Rattle.base.specs.Outcome.{Outcome, accepted, refused, _>>=_, faultsAs}
+use Rattle.base.specs.Outcome.{Outcome, accepted, refused, _>>=_}
 use Rattle.base.specs.Refusal.{refusal}
+use Rattle.base.specs.Request.{request}
 use Rattle.base.specs.declared.connection.Channel.{Channel}
 use Rattle.auth.specs.declared.AuthType.{AuthType}
 use Rattle.auth.specs.declared.PrivilegeLevel.{PrivilegeLevel}
@@ -50,16 +51,19 @@ askedChannel n = if n <? 0x80 then refused 10 [] else channelOf (n - 0x80)
 abbrev pub askedLevel : ℕ → Outcome PrivilegeLevel
 askedLevel n = required 10 [] (named privileges n)
 
--- "a request reader turns every fault into 10"
+-- the request, read: "a request reader turns every fault into 10"
 abbrev pub commandOf : List ℕ → Outcome GetChannelAuthenticationCapabilities
-commandOf request =
-    if length request =? 2 then faultsAs 10 (do
-      channel ← askedChannel (byte 0 request)
-      level ← askedLevel (byte 1 request)
-      accepted (command channel level))
-    else refused 10 []
+commandOf bytes = request 2 bytes (do
+  channel ← askedChannel (byte 0 bytes)
+  level ← askedLevel (byte 1 bytes)
+  accepted (command channel level))
 
 -- The response.
+
+-- what every record of the machine has: its id is three bytes, its other numbers are bytes
+pub record Typed (c : ChannelAuthenticationCapabilities) : Type 0 where
+  pub id : Array 3 (c .«oem_id»)
+  pub rest : Bytes (c .«channel_number» ∷ c .«oem_auxiliary_data» ∷ [])
 
 -- bytes 0 to 2, and what stands elsewhere by bit 7 of byte 1; "bit 4 set means per-message authentication is NOT enabled, bit 3 the same for user level"
 abbrev pub capabilitiesFrom : ℕ → ℕ → ℕ → Bool → Bool → Bool → List ℕ → ℕ → ChannelAuthenticationCapabilities

@@ -1,7 +1,7 @@
 // Get Channel Authentication Capabilities, App 38h: IPMI 2.0, Table 22-15; the Rust's get_channel_authentication_capabilities.rs.
 ghost use mathlib.Core.Path.{_≡_};
 ghost use Rattle.auth.specs.Auth.{saidAuthType};
-ghost use Rattle.auth.specs.GetChannelAuthenticationCapabilities.{bestAuth, capabilitiesBytes, capabilitiesFrom, capabilitiesOf, command, commandBytes, commandFor, commandOf, extendedOf, noCapabilities, saidCommand};
+ghost use Rattle.auth.specs.GetChannelAuthenticationCapabilities.{Typed, bestAuth, capabilitiesBytes, capabilitiesFrom, capabilitiesOf, command, commandBytes, commandFor, commandOf, extendedOf, noCapabilities, saidCommand};
 ghost use Rattle.base.specs.Outcome.{accepted};
 ghost use Rattle.base.specs.Verdict.{Gives};
 ghost use Rattle.base.specs.Written.{Writes};
@@ -31,6 +31,8 @@ pub enum CommandAnswer {
 }
 
 impl GetChannelAuthenticationCapabilities {
+    pub const COMMAND: u8 = 0x38;
+
     pub fn new(channel_number: Channel, privilege_level: PrivilegeLevel) -> Self
         ensures { λ r. ⌜ r ≡ command «channel_number» «privilege_level» ⌝ }
     {
@@ -109,6 +111,11 @@ pub struct CapabilitiesAnswer {
 }
 
 impl ChannelAuthenticationCapabilities {
+    // What the laws ask of a record.
+    fn typed(self)
+        ensures { λ _. ⌜ Typed self ⌝ }
+    {}
+
     // Bits 4 and 3 of the status say what is NOT enabled.
     fn from_bytes(
         channel_number: u8,

@@ -6,7 +6,7 @@ use mathlib.Core.Option.{Option, none, some}
 use Prim.Native.Nat.{ℕ, zero, suc, _+_, _≤_}
 use native.Mathlib.Omega.{arith}
 use lib.ListN.{length, List·getD-eq-default}
-use Rattle.base.specs.Named.{named}
+use Rattle.base.specs.Named.{named, required}
 use Rattle.base.specs.Outcome.{Outcome, accepted}
 
 pub nothing : {A : Type 0} (names : List (Option A)) (n : ℕ) → length names ≤ n → named names n ≡ none
@@ -46,6 +46,11 @@ unnamed {A} number names iff n never = go (named names n) refl
     go : (o : Option A) → named names n ≡ o → named names n ≡ none
     go none e = e
     go (some a) e = absurd (never a (iff n a .0 e))
+
+-- where something had to be named, it is
+pub required-some : {A : Type 0} (n : ℕ) (v : List ℕ) (o : Option A) {a : A} → required n v o ≡ accepted a → o ≡ some a
+required-some n v none e = let z : _≡_ {A = ℕ} 0 1 = cc in absurd (omega arith)
+required-some n v (some b) e = cc
 
 -- what an answer's case tells of what a number names
 pub told : {X A : Type 0} (said : X → Outcome (Option A)) {x y : X} {o : Option A} (n : Option A) → said x ≡ accepted o → x ≡ y → said y ≡ accepted n → o ≡ n

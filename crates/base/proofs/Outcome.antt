@@ -13,6 +13,20 @@ use Rattle.base.specs.Outcome.{Outcome, accepted, refused, _>>=_, faults
 pub apart : {A : Type 0} {a : A} {n : ℕ} {v : List ℕ} → refused n v ≡ accepted a → ⊥
 apart e = let z : _≡_ {A = ℕ} 0 1 = cc in omega arith
 
+-- where something is accepted behind a test that refuses, the test was passed
+
+pub otherwise : {A : Type 0} (n : ℕ) (b : Bool) {x : Outcome A} {a : A} → (if b then refused n [] else x) ≡ accepted a → (b ≡ false) × (x ≡ accepted a)
+otherwise n true e = absurd (apart e)
+otherwise n false e = (refl, e)
+
+pub when : {A : Type 0} (n : ℕ) (b : Bool) {x : Outcome A} {a : A} → (if b then x else refused n []) ≡ accepted a → (b ≡ true) × (x ≡ accepted a)
+when n true e = (refl, e)
+when n false e = absurd (apart e)
+
+pub unfaulted : {A : Type 0} (n : ℕ) (x : Outcome A) {a : A} → faultsAs n x ≡ accepted a → x ≡ accepted a
+unfaulted n (accepted b) e = e
+unfaulted n (refused k v) e = absurd (apart e)
+
 -- where two steps are accepted, each is
 pub steps : {A B : Type 0} (x : Outcome A) (next : A → Outcome B) {b : B} → (x >>= next) ≡ accepted b → (a : A) × (x ≡ accepted a) × (next a ≡ accepted b)
 steps (accepted a) next e = (a, refl, e)
@@ -25,6 +39,10 @@ Only n x = faultsAs n x ≡ x
 pub only-steps : {A B : Type 0} (n : ℕ) (x : Outcome A) (next : A → Outcome B) → Only n x → ((a : A) → Only n (next a)) → Only n (x >>= next)
 only-steps n (accepted a) next p q = q a
 only-steps n (refused k v) next p q = cc
+
+pub only-else : {A : Type 0} (n : ℕ) (b : Bool) (x : Outcome A) → Only n x → Only n (if b then refused n [] else x)
+only-else n true x p = refl
+only-else n false x p = p
 
 pub only-refused : {A : Type 0} (n : ℕ) (x : Outcome A) → Only n x → ((a : A) → x ≡ accepted a → ⊥) → x ≡ refused n []
 only-refused n (accepted a) p none = absurd (none a refl)
@@ -41,17 +59,7 @@ module _ {A : Type 0} (n first last : ℕ) (a : A) (k : ℕ) where
   inside p q = simp (le-ltb n first p, le-ltb last n q)
 
   pub ranged : {b : A} → (if n from first to last then accepted a else refused k []) ≡ accepted b → (first ≤ n) × (n ≤ last) × (a ≡ b)
-  ranged {b} e = go (ltb n first) (ltb last n) refl refl e
-    where
-      go : (x y : Bool) → ltb n first ≡ x → ltb last n ≡ y → (if x then refused k [] else if y then refused k [] else accepted a) ≡ accepted b → (first ≤ n) × (n ≤ last) × (a ≡ b)
-      go true y p q e = absurd (apart e)
-      go false true p q e = absurd (apart e)
-      go false false p q e = (ltb-false n first p, ltb-false last n q, cc)
+  ranged {b} e = let (p, f) = otherwise k (ltb n first) e in let (q, g) = otherwise k (ltb last n) f in (ltb-false n first p, ltb-false last n q, cc)
 
   pub only-ranged : Only k (if n from first to last then accepted a else refused k [])
-  only-ranged = go (ltb n first) (ltb last n)
-    where
-      go : (x y : Bool) → Only k (if x then refused k [] else if y then refused k [] else accepted a)
-      go true y = refl
-      go false true = refl
-      go false false = refl
+  only-ranged = only-else k (ltb n first) _ (only-else k (ltb last n) _ refl)

@@ -2,9 +2,10 @@
 -- An outcome is the result and the last value of each parameter: of a `&mut` what it refers to at exit, of any other nothing.
 use mathlib.Core.Path.{_≡_, refl, sym, _∙_, ap}
 use mathlib.Core.List.{List}
-use Prim.Native.Nat.{ℕ}
+use Prim.Native.Nat.{ℕ, zero, suc}
 use contract.Lifetimes.{Lfts}
 use borrow.Fn.Kinds.{PK, RK, In, Out, Dens, resT, endedOf}
+use denote.Ref.{RefT}
 use denote.Triple.Clauses.{Lasts, atExit}
 use Rattle.base.specs.Outcome.{Outcome}
 use Rattle.base.specs.Written.{Writes}
@@ -20,26 +21,31 @@ Unique {n} ps r Asked Learnt =
     → Learnt κs a z (atExit (endedOf n ps r) κs a w) → Learnt κs a z′ (atExit (endedOf n ps r) κs a w′)
     → (z ≡ z′) × (w ≡ w′)
 
--- the same of a function that returns a part of lent bytes, by what is seen of the part
-abbrev pub UniquePart : {n : ℕ} (ps : List (PK n)) (r : RK n) → In n ps → Out n ps r → ((κs : Lfts n) → resT r κs .Denot → List ℕ) → Type 0
-UniquePart {n} ps r Asked Learnt seen =
+-- the same of a function that returns a part of lent bytes: where it lies, and its bytes. A reference has besides only a name in proofs.
+abbrev pub UniquePart : {n : ℕ} (ps : List (PK n)) (r : RK n) → In n ps → Out n ps r → ((κs : Lfts n) → resT r κs .Denot → RefT (List ℕ)) → Type 0
+UniquePart {n} ps r Asked Learnt part =
     (κs : Lfts n) (a : Dens κs ps) → Asked κs a
     → (z z′ : resT r κs .Denot) (w w′ : Lasts (endedOf n ps r) κs a)
     → Learnt κs a z (atExit (endedOf n ps r) κs a w) → Learnt κs a z′ (atExit (endedOf n ps r) κs a w′)
-    → (seen κs z ≡ seen κs z′) × (w ≡ w′)
+    → ((part κs z .ptr ≡ part κs z′ .ptr) × (part κs z .now ≡ part κs z′ .now)) × (w ≡ w′)
 
 pub both {ℓ} : {A : Type ℓ} {x y z : A} → x ≡ z → y ≡ z → x ≡ y
 both e f = e ∙ sym f
 
--- a writer, whose buffer is the second of two parameters
-pub writer : {message : Outcome (List ℕ)} {r r′ : Written} {before after after′ : List ℕ} → Writes message r before after → Writes message r′ before after′
-    → (r ≡ r′) × (_≡_ {A = Unit {0} × (List ℕ × Unit {0})} (tt, (after, tt)) (tt, (after′, tt)))
-writer {r} {r′} q q′ = (written-one r r′ (both (q .answers) (q′ .answers)), ap (λ x. (tt, (x, tt))) (both (q .leaves) (q′ .leaves)))
+-- The last values of parameters of which only a buffer, behind k others, has one.
 
--- a writer, whose buffer is the third of three
-pub writer3 : {message : Outcome (List ℕ)} {r r′ : Written} {before after after′ : List ℕ} → Writes message r before after → Writes message r′ before after′
-    → (r ≡ r′) × (_≡_ {A = Unit {0} × (Unit {0} × (List ℕ × Unit {0}))} (tt, (tt, (after, tt))) (tt, (tt, (after′, tt))))
-writer3 {r} {r′} q q′ = (written-one r r′ (both (q .answers) (q′ .answers)), ap (λ x. (tt, (tt, (x, tt)))) (both (q .leaves) (q′ .leaves)))
+abbrev pub Last : ℕ → Type 0
+Last zero = List ℕ × Unit {0}
+Last (suc k) = Unit {0} × Last k
+
+abbrev pub last : (k : ℕ) → List ℕ → Last k
+last zero buffer = (buffer, tt)
+last (suc k) buffer = (tt, last k buffer)
+
+-- a writer, whose buffer stands behind k parameters
+pub writer : (k : ℕ) {message : Outcome (List ℕ)} {r r′ : Written} {before after after′ : List ℕ} → Writes message r before after → Writes message r′ before after′
+    → (r ≡ r′) × (last k after ≡ last k after′)
+writer k {r} {r′} q q′ = (written-one r r′ (both (q .answers) (q′ .answers)), ap (last k) (both (q .leaves) (q′ .leaves)))
 
 pub bits-unique : Unique p.field.bits.Kinds.ps p.field.bits.Kinds.r p.field.bits.Reads.Asked p.field.bits.Reads.Learnt
 bits-unique κs a ok z z′ w w′ q q′ = (both q q′, refl)
@@ -55,6 +61,9 @@ flags-unique κs a ok z z′ w w′ q q′ = (both q q′, refl)
 
 pub number4-unique : Unique p.little.number4.Kinds.ps p.little.number4.Kinds.r p.little.number4.Reads.Asked p.little.number4.Reads.Learnt
 number4-unique κs a ok z z′ w w′ q q′ = (both q q′, refl)
+
+pub bytes3-unique : Unique p.little.bytes3.Kinds.ps p.little.bytes3.Kinds.r p.little.bytes3.Reads.Asked p.little.bytes3.Reads.Learnt
+bytes3-unique κs a ok z z′ w w′ q q′ = (both q q′, refl)
 
 pub bytes4-unique : Unique p.little.bytes4.Kinds.ps p.little.bytes4.Kinds.r p.little.bytes4.Reads.Asked p.little.bytes4.Reads.Learnt
 bytes4-unique κs a ok z z′ w w′ q q′ = (both q q′, refl)
@@ -75,13 +84,13 @@ pub digit-unique : Unique p.text.digit.Kinds.ps p.text.digit.Kinds.r p.text.digi
 digit-unique κs a ok z z′ w w′ q q′ = (both q q′, refl)
 
 pub coded-unique : Unique p.text.coded.Kinds.ps p.text.coded.Kinds.r p.text.coded.Reads.Asked p.text.coded.Reads.Learnt
-coded-unique κs a ok z z′ w w′ q q′ = writer3 q q′
+coded-unique κs a ok z z′ w w′ q q′ = writer 2 q q′
 
 pub join-unique : Unique p.written.join.Kinds.ps p.written.join.Kinds.r p.written.join.Reads.Asked p.written.join.Reads.Learnt
-join-unique κs a ok z z′ w w′ q q′ = writer3 q q′
+join-unique κs a ok z z′ w w′ q q′ = writer 2 q q′
 
 pub place-unique : Unique p.written.place.Kinds.ps p.written.place.Kinds.r p.written.place.Reads.Asked p.written.place.Reads.Learnt
-place-unique κs a ok z z′ w w′ q q′ = writer q q′
+place-unique κs a ok z z′ w w′ q q′ = writer 1 q q′
 
 pub channel-number-new-unique : Unique p.connection.ChannelNumber.new.Kinds.ps p.connection.ChannelNumber.new.Kinds.r p.connection.ChannelNumber.new.Reads.Asked p.connection.ChannelNumber.new.Reads.Learnt
 channel-number-new-unique κs a ok z z′ w w′ q q′ = (number-one z z′ (both q q′), refl)
@@ -99,7 +108,7 @@ pub channel-field-unique : Unique p.connection.Channel.field.Kinds.ps p.connecti
 channel-field-unique κs a ok z z′ w w′ q q′ = (field-one z z′ (both q q′), refl)
 
 pub channel-text-unique : Unique p.connection.Channel.text.Kinds.ps p.connection.Channel.text.Kinds.r p.connection.Channel.text.Reads.Asked p.connection.Channel.text.Reads.Learnt
-channel-text-unique κs a ok z z′ w w′ q q′ = writer q q′
+channel-text-unique κs a ok z z′ w w′ q q′ = writer 1 q q′
 
 pub logical-unit-from-low-bits-unique : Unique p.connection.LogicalUnit.from_low_bits.Kinds.ps p.connection.LogicalUnit.from_low_bits.Kinds.r p.connection.LogicalUnit.from_low_bits.Reads.Asked p.connection.LogicalUnit.from_low_bits.Reads.Learnt
 logical-unit-from-low-bits-unique κs a ok z z′ w w′ q q′ = (cc, refl)

@@ -2,8 +2,10 @@
 use Prim.Native.Nat.{ℕ, _+_, _*_, _/_, _%_, _^_, _<_}
 use mathlib.Core.Bool.{Bool}
 use mathlib.Core.List.{List, [], _∷_}
-use lib.ListN.{getD}
-use mir.Val.{boolByte}
+use mathlib.Core.Path.{_≡_}
+use lib.ListN.{length, getD}
+use mir.Syntax.{w8}
+use mir.Val.{Fits, boolByte}
 use Rattle.base.specs.Choice.{_=?_, if_from_to_then_else_}
 use Rattle.base.specs.Outcome.{Outcome, accepted, refused}
 use Rattle.base.specs.declared.field.FieldAnswer.{FieldAnswer}
@@ -18,10 +20,14 @@ saidField NoForm = refused 9 []
 abbrev pub byte : ℕ → List ℕ → ℕ
 byte k message = getD message k 0
 
--- every element is a byte
+-- a string of bytes: each of its numbers is one
 abbrev pub Bytes : List ℕ → Type 0
 Bytes [] = Unit {0}
 Bytes (byte ∷ bytes) = (byte < 256) × Bytes bytes
+
+-- an array of so many bytes, as the machine has one: each has eight bits
+abbrev pub Array : ℕ → List ℕ → Type 0
+Array width bytes = (length bytes ≡ width) × ((k : ℕ) → Fits w8 (byte k bytes))
 
 -- a number as a field has it: 9 outside the field's range
 abbrev pub within : ℕ → ℕ → ℕ → Outcome ℕ

@@ -4,7 +4,9 @@ pub mod Field
 pub mod Little
 pub mod Named
 pub mod Outcome
+pub mod Part
 pub mod Refusal
+pub mod Request
 pub mod Text
 pub mod Verdict
 pub mod Written

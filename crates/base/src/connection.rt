@@ -12,6 +12,11 @@ use crate::text::digit;
 use crate::written::Written;
 use crate::written::place;
 
+// The network function of all commands here, App: in requests, and in responses.
+pub const APP: u8 = 0x06;
+
+pub const APP_RESPONSE: u8 = 0x07;
+
 // The address of a module or sensor.
 pub struct Address(pub u8);
 

@@ -1,11 +1,18 @@
 // A field of a byte is a position and a width, as in the standard's tables.
 ghost use mathlib.Core.Path.{_≡_};
-ghost use Rattle.base.specs.Field.{bits, flag, flags, saidField, within};
+ghost use Rattle.base.specs.Field.{Bytes, bits, flag, flags, saidField, within};
 
 // What a value is in its field; `NoForm` where no reading of the field gives that value.
 pub enum FieldAnswer {
     Number(u8),
     NoForm,
+}
+
+// What is lent is a string of bytes: the laws of readers and writers ask for it. A slice's elements are known from a call on.
+fn lent(message: &[u8])
+    ensures { λ _. ⌜ Bytes (now (message .entry)) ⌝ }
+{
+    bits(0, 0, 0);
 }
 
 // The `width` bits of `byte` from bit `at` up.

@@ -15,6 +15,16 @@ pub fn number4(low: u8, second: u8, third: u8, high: u8) -> u32
     low as u32 + 256 * number3(second, third, high)
 }
 
+pub fn bytes3(n: u32) -> [u8; 3]
+    ensures { λ r. ⌜ r ≡ littleBytes 3 n ⌝ }
+{
+    [
+        (n % 256) as u8,
+        (n / 256 % 256) as u8,
+        (n / 256 / 256 % 256) as u8,
+    ]
+}
+
 pub fn bytes4(n: u32) -> [u8; 4]
     ensures { λ r. ⌜ r ≡ littleBytes 4 n ⌝ }
 {

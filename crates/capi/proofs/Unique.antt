@@ -3,7 +3,7 @@ use mathlib.Core.List.{List}
 use mathlib.Core.Path.{_≡_, refl, _∙_, ap}
 use mathlib.Core.Option.{Option}
 use Prim.Native.Nat.{ℕ}
-use Rattle.base.proofs.Unique.{Unique, both}
+use Rattle.base.proofs.Unique.{Unique, both, last}
 use Rattle.base.proofs.Walked.{UniqueWalk, facts}
 use Rattle.base.specs.Outcome.{Outcome}
 use Rattle.capi.specs.Number.{Codes, CodesAny, Takes}
@@ -13,15 +13,10 @@ use Rattle.collector.specs.declared.Collector.{Collector}
 use Rattle.suites.specs.declared.get_channel_cipher_suites.Step.{Step}
 use Rattle.capi.proofs as p
 
--- where the buffer is the second of two parameters
-pub coder : {message : Outcome (List ℕ)} {n n′ : ℕ} {before after after′ : List ℕ} → Codes message n before after → Codes message n′ before after′
-    → (n ≡ n′) × (_≡_ {A = Unit {0} × (List ℕ × Unit {0})} (tt, (after, tt)) (tt, (after′, tt)))
-coder q q′ = (both (q .answers) (q′ .answers), ap (λ x. (tt, (x, tt))) (both (q .leaves) (q′ .leaves)))
-
--- and the third of three
-pub coder3 : {message : Outcome (List ℕ)} {n n′ : ℕ} {before after after′ : List ℕ} → Codes message n before after → Codes message n′ before after′
-    → (n ≡ n′) × (_≡_ {A = Unit {0} × (Unit {0} × (List ℕ × Unit {0}))} (tt, (tt, (after, tt))) (tt, (tt, (after′, tt))))
-coder3 q q′ = (both (q .answers) (q′ .answers), ap (λ x. (tt, (tt, (x, tt)))) (both (q .leaves) (q′ .leaves)))
+-- where the buffer stands behind k parameters
+pub coder : (k : ℕ) {message : Outcome (List ℕ)} {n n′ : ℕ} {before after after′ : List ℕ} → Codes message n before after → Codes message n′ before after′
+    → (n ≡ n′) × (last k after ≡ last k after′)
+coder k q q′ = (both (q .answers) (q′ .answers), ap (last k) (both (q .leaves) (q′ .leaves)))
 
 -- a collector that takes an answer: its two arrays come first
 pub taker : {taken : Outcome Collector} {n n′ : ℕ} {before : Collector} {bytes marks bytes′ marks′ : List ℕ}
@@ -30,7 +25,7 @@ pub taker : {taken : Outcome Collector} {n n′ : ℕ} {before : Collector} {byt
 taker q q′ = (both (q .answers) (q′ .answers), ap (λ (c : Collector). (c .bytes, (c .marks, (tt, (tt, tt))))) (both (q .leaves) (q′ .leaves)))
 
 pub ghj-suite-numbers-unique : Unique p.ghj_suite_numbers.Kinds.ps p.ghj_suite_numbers.Kinds.r p.ghj_suite_numbers.Reads.Asked p.ghj_suite_numbers.Reads.Learnt
-ghj-suite-numbers-unique κs a ok z z′ w w′ q q′ = coder q q′
+ghj-suite-numbers-unique κs a ok z z′ w w′ q q′ = coder 1 q q′
 
 pub ghj-collector-answer-unique : Unique p.ghj_collector_answer.Kinds.ps p.ghj_collector_answer.Kinds.r p.ghj_collector_answer.Reads.Asked p.ghj_collector_answer.Reads.Learnt
 ghj-collector-answer-unique κs a ok z z′ w w′ q q′ = taker q q′
@@ -39,51 +34,36 @@ pub ghj-collector-status-unique : Unique p.ghj_collector_status.Kinds.ps p.ghj_c
 ghj-collector-status-unique κs a ok z z′ w w′ q q′ = (both q q′, refl)
 
 pub ghj-collector-list-unique : Unique p.ghj_collector_list.Kinds.ps p.ghj_collector_list.Kinds.r p.ghj_collector_list.Reads.Asked p.ghj_collector_list.Reads.Learnt
-ghj-collector-list-unique κs a ok z z′ w w′ q q′ = coder3 q q′
+ghj-collector-list-unique κs a ok z z′ w w′ q q′ = coder 2 q q′
 
 pub ghj-collector-suites-unique : Unique p.ghj_collector_suites.Kinds.ps p.ghj_collector_suites.Kinds.r p.ghj_collector_suites.Reads.Asked p.ghj_collector_suites.Reads.Learnt
-ghj-collector-suites-unique κs a ok z z′ w w′ q q′ = coder3 q q′
+ghj-collector-suites-unique κs a ok z z′ w w′ q q′ = coder 2 q q′
 
 pub ghj-collector-take-unique : UniqueWalk p.ghj_collector_take.ended (λ M 𝓤 H A mem run. p.ghj_collector_take.clauses 𝓤 H A mem run)
 ghj-collector-take-unique M 𝓤 H A mem run κs a g z z′ w w′ = facts 𝓤 (λ q q′. (both (q .answers) (q′ .answers), ap (λ x. (x, (tt, (tt, tt)))) (both (q .leaves) (q′ .leaves))))
 
 pub ghj-challenge-unique : Unique p.ghj_challenge.Kinds.ps p.ghj_challenge.Kinds.r p.ghj_challenge.Reads.Asked p.ghj_challenge.Reads.Learnt
-ghj-challenge-unique κs a ok z z′ w w′ q q′ = coder q q′
+ghj-challenge-unique κs a ok z z′ w w′ q q′ = coder 1 q q′
 
 pub ghj-activation-unique : Unique p.ghj_activation.Kinds.ps p.ghj_activation.Kinds.r p.ghj_activation.Reads.Asked p.ghj_activation.Reads.Learnt
-ghj-activation-unique κs a ok z z′ w w′ q q′ = coder q q′
+ghj-activation-unique κs a ok z z′ w w′ q q′ = coder 1 q q′
 
 pub ghj-suites-unique : Unique p.ghj_suites.Kinds.ps p.ghj_suites.Kinds.r p.ghj_suites.Reads.Asked p.ghj_suites.Reads.Learnt
-ghj-suites-unique κs a ok z z′ w w′ q q′ = coder q q′
+ghj-suites-unique κs a ok z z′ w w′ q q′ = coder 1 q q′
 
 pub ghj-access-unique : Unique p.ghj_access.Kinds.ps p.ghj_access.Kinds.r p.ghj_access.Reads.Asked p.ghj_access.Reads.Learnt
-ghj-access-unique κs a ok z z′ w w′ q q′ = coder q q′
+ghj-access-unique κs a ok z z′ w w′ q q′ = coder 1 q q′
 
 pub ghj-info-unique : Unique p.ghj_info.Kinds.ps p.ghj_info.Kinds.r p.ghj_info.Reads.Asked p.ghj_info.Reads.Learnt
-ghj-info-unique κs a ok z z′ w w′ q q′ = coder q q′
+ghj-info-unique κs a ok z z′ w w′ q q′ = coder 1 q q′
 
 pub ghj-capabilities-unique : Unique p.ghj_capabilities.Kinds.ps p.ghj_capabilities.Kinds.r p.ghj_capabilities.Reads.Asked p.ghj_capabilities.Reads.Learnt
-ghj-capabilities-unique κs a ok z z′ w w′ q q′ = coder q q′
+ghj-capabilities-unique κs a ok z z′ w w′ q q′ = coder 1 q q′
 
--- a message or none, its buffer the second of two parameters
-pub any-coder : {message : Outcome (Option (List ℕ))} {n n′ : ℕ} {before after after′ : List ℕ} → CodesAny message n before after → CodesAny message n′ before after′
-    → (n ≡ n′) × (_≡_ {A = Unit {0} × (List ℕ × Unit {0})} (tt, (after, tt)) (tt, (after′, tt)))
-any-coder q q′ = (both (q .answers) (q′ .answers), ap (λ x. (tt, (x, tt))) (both (q .leaves) (q′ .leaves)))
-
--- and the third of three
-pub any-coder3 : {message : Outcome (Option (List ℕ))} {n n′ : ℕ} {before after after′ : List ℕ} → CodesAny message n before after → CodesAny message n′ before after′
-    → (n ≡ n′) × (_≡_ {A = Unit {0} × (Unit {0} × (List ℕ × Unit {0}))} (tt, (tt, (after, tt))) (tt, (tt, (after′, tt))))
-any-coder3 q q′ = (both (q .answers) (q′ .answers), ap (λ x. (tt, (tt, (x, tt)))) (both (q .leaves) (q′ .leaves)))
-
--- and the last of five
-pub any-coder5 : {message : Outcome (Option (List ℕ))} {n n′ : ℕ} {before after after′ : List ℕ} → CodesAny message n before after → CodesAny message n′ before after′
-    → (n ≡ n′) × (_≡_ {A = Unit {0} × (Unit {0} × (Unit {0} × (Unit {0} × (List ℕ × Unit {0}))))} (tt, (tt, (tt, (tt, (after, tt))))) (tt, (tt, (tt, (tt, (after′, tt))))))
-any-coder5 q q′ = (both (q .answers) (q′ .answers), ap (λ x. (tt, (tt, (tt, (tt, (x, tt)))))) (both (q .leaves) (q′ .leaves)))
-
--- the buffer the last of five
-pub coder5 : {message : Outcome (List ℕ)} {n n′ : ℕ} {before after after′ : List ℕ} → Codes message n before after → Codes message n′ before after′
-    → (n ≡ n′) × (_≡_ {A = Unit {0} × (Unit {0} × (Unit {0} × (Unit {0} × (List ℕ × Unit {0}))))} (tt, (tt, (tt, (tt, (after, tt))))) (tt, (tt, (tt, (tt, (after′, tt))))))
-coder5 q q′ = (both (q .answers) (q′ .answers), ap (λ x. (tt, (tt, (tt, (tt, (x, tt)))))) (both (q .leaves) (q′ .leaves)))
+-- a message or none
+pub any-coder : (k : ℕ) {message : Outcome (Option (List ℕ))} {n n′ : ℕ} {before after after′ : List ℕ} → CodesAny message n before after → CodesAny message n′ before after′
+    → (n ≡ n′) × (last k after ≡ last k after′)
+any-coder k q q′ = (both (q .answers) (q′ .answers), ap (last k) (both (q .leaves) (q′ .leaves)))
 
 -- a step's position and flag, behind the list
 pub stepper : {step : Step} {n n′ position position′ failed failed′ : ℕ} → Steps step n position failed → Steps step n′ position′ failed′
@@ -92,43 +72,43 @@ stepper {position′} {failed} q q′ =
     (both (q .answers) (q′ .answers), ap (λ x. (tt, (x, (failed, tt)))) (both (q .moves) (q′ .moves)) ∙ ap (λ x. (tt, (position′, (x, tt)))) (both (q .marks) (q′ .marks)))
 
 pub ghj-access-request-unique : Unique p.requests.ghj_access_request.Kinds.ps p.requests.ghj_access_request.Kinds.r p.requests.ghj_access_request.Reads.Asked p.requests.ghj_access_request.Reads.Learnt
-ghj-access-request-unique κs a ok z z′ w w′ q q′ = coder3 q q′
+ghj-access-request-unique κs a ok z z′ w w′ q q′ = coder 2 q q′
 
 pub ghj-capabilities-request-unique : Unique p.requests.ghj_capabilities_request.Kinds.ps p.requests.ghj_capabilities_request.Kinds.r p.requests.ghj_capabilities_request.Reads.Asked p.requests.ghj_capabilities_request.Reads.Learnt
-ghj-capabilities-request-unique κs a ok z z′ w w′ q q′ = any-coder3 q q′
+ghj-capabilities-request-unique κs a ok z z′ w w′ q q′ = any-coder 2 q q′
 
 pub ghj-challenge-request-unique : Unique p.requests.ghj_challenge_request.Kinds.ps p.requests.ghj_challenge_request.Kinds.r p.requests.ghj_challenge_request.Reads.Asked p.requests.ghj_challenge_request.Reads.Learnt
-ghj-challenge-request-unique κs a ok z z′ w w′ q q′ = any-coder3 q q′
+ghj-challenge-request-unique κs a ok z z′ w w′ q q′ = any-coder 2 q q′
 
 pub ghj-suites-request-unique : Unique p.requests.ghj_suites_request.Kinds.ps p.requests.ghj_suites_request.Kinds.r p.requests.ghj_suites_request.Reads.Asked p.requests.ghj_suites_request.Reads.Learnt
-ghj-suites-request-unique κs a ok z z′ w w′ q q′ = coder3 q q′
+ghj-suites-request-unique κs a ok z z′ w w′ q q′ = coder 2 q q′
 
 pub ghj-info-request-unique : Unique p.requests.ghj_info_request.Kinds.ps p.requests.ghj_info_request.Kinds.r p.requests.ghj_info_request.Reads.Asked p.requests.ghj_info_request.Reads.Learnt
-ghj-info-request-unique κs a ok z z′ w w′ q q′ = coder q q′
+ghj-info-request-unique κs a ok z z′ w w′ q q′ = coder 1 q q′
 
 pub ghj-activation-request-unique : Unique p.requests.ghj_activation_request.Kinds.ps p.requests.ghj_activation_request.Kinds.r p.requests.ghj_activation_request.Reads.Asked p.requests.ghj_activation_request.Reads.Learnt
-ghj-activation-request-unique κs a ok z z′ w w′ q q′ = any-coder5 q q′
+ghj-activation-request-unique κs a ok z z′ w w′ q q′ = any-coder 4 q q′
 
 pub ghj-channel-text-unique : Unique p.display.ghj_channel_text.Kinds.ps p.display.ghj_channel_text.Kinds.r p.display.ghj_channel_text.Reads.Asked p.display.ghj_channel_text.Reads.Learnt
-ghj-channel-text-unique κs a ok z z′ w w′ q q′ = coder q q′
+ghj-channel-text-unique κs a ok z z′ w w′ q q′ = coder 1 q q′
 
 pub ghj-mode-text-unique : Unique p.display.ghj_mode_text.Kinds.ps p.display.ghj_mode_text.Kinds.r p.display.ghj_mode_text.Reads.Asked p.display.ghj_mode_text.Reads.Learnt
-ghj-mode-text-unique κs a ok z z′ w w′ q q′ = coder q q′
+ghj-mode-text-unique κs a ok z z′ w w′ q q′ = coder 1 q q′
 
 pub ghj-limit-text-unique : Unique p.display.ghj_limit_text.Kinds.ps p.display.ghj_limit_text.Kinds.r p.display.ghj_limit_text.Reads.Asked p.display.ghj_limit_text.Reads.Learnt
-ghj-limit-text-unique κs a ok z z′ w w′ q q′ = coder q q′
+ghj-limit-text-unique κs a ok z z′ w w′ q q′ = coder 1 q q′
 
 pub ghj-medium-text-unique : Unique p.display.ghj_medium_text.Kinds.ps p.display.ghj_medium_text.Kinds.r p.display.ghj_medium_text.Reads.Asked p.display.ghj_medium_text.Reads.Learnt
-ghj-medium-text-unique κs a ok z z′ w w′ q q′ = coder q q′
+ghj-medium-text-unique κs a ok z z′ w w′ q q′ = coder 1 q q′
 
 pub ghj-protocol-text-unique : Unique p.display.ghj_protocol_text.Kinds.ps p.display.ghj_protocol_text.Kinds.r p.display.ghj_protocol_text.Reads.Asked p.display.ghj_protocol_text.Reads.Learnt
-ghj-protocol-text-unique κs a ok z z′ w w′ q q′ = coder q q′
+ghj-protocol-text-unique κs a ok z z′ w w′ q q′ = coder 1 q q′
 
 pub ghj-session-support-text-unique : Unique p.display.ghj_session_support_text.Kinds.ps p.display.ghj_session_support_text.Kinds.r p.display.ghj_session_support_text.Reads.Asked p.display.ghj_session_support_text.Reads.Learnt
-ghj-session-support-text-unique κs a ok z z′ w w′ q q′ = coder q q′
+ghj-session-support-text-unique κs a ok z z′ w w′ q q′ = coder 1 q q′
 
 pub ghj-auth-type-name-unique : Unique p.display.ghj_auth_type_name.Kinds.ps p.display.ghj_auth_type_name.Kinds.r p.display.ghj_auth_type_name.Reads.Asked p.display.ghj_auth_type_name.Reads.Learnt
-ghj-auth-type-name-unique κs a ok z z′ w w′ q q′ = any-coder q q′
+ghj-auth-type-name-unique κs a ok z z′ w w′ q q′ = any-coder 1 q q′
 
 pub ghj-best-auth-unique : Unique p.strength.ghj_best_auth.Kinds.ps p.strength.ghj_best_auth.Kinds.r p.strength.ghj_best_auth.Reads.Asked p.strength.ghj_best_auth.Reads.Learnt
 ghj-best-auth-unique κs a ok z z′ w w′ q q′ = (both q q′, refl)
@@ -137,7 +117,7 @@ pub ghj-compare-strength-unique : Unique p.strength.ghj_compare_strength.Kinds.p
 ghj-compare-strength-unique κs a ok z z′ w w′ q q′ = (both q q′, refl)
 
 pub ghj-suite-algorithms-unique : Unique p.table.ghj_suite_algorithms.Kinds.ps p.table.ghj_suite_algorithms.Kinds.r p.table.ghj_suite_algorithms.Reads.Asked p.table.ghj_suite_algorithms.Reads.Learnt
-ghj-suite-algorithms-unique κs a ok z z′ w w′ q q′ = any-coder q q′
+ghj-suite-algorithms-unique κs a ok z z′ w w′ q q′ = any-coder 1 q q′
 
 pub ghj-suite-of-unique : Unique p.table.ghj_suite_of.Kinds.ps p.table.ghj_suite_of.Kinds.r p.table.ghj_suite_of.Reads.Asked p.table.ghj_suite_of.Reads.Learnt
 ghj-suite-of-unique κs a ok z z′ w w′ q q′ = (both q q′, refl)
@@ -146,33 +126,28 @@ pub ghj-suite-step-unique : Unique p.table.ghj_suite_step.Kinds.ps p.table.ghj_s
 ghj-suite-step-unique κs a ok z z′ w w′ q q′ = stepper q q′
 
 pub ghj-set-access-request-unique : Unique p.settings.ghj_set_access_request.Kinds.ps p.settings.ghj_set_access_request.Kinds.r p.settings.ghj_set_access_request.Reads.Asked p.settings.ghj_set_access_request.Reads.Learnt
-ghj-set-access-request-unique κs a ok z z′ w w′ q q′ = coder5 q q′
+ghj-set-access-request-unique κs a ok z z′ w w′ q q′ = coder 4 q q′
 
 pub ghj-set-access-unique : Unique p.settings.ghj_set_access.Kinds.ps p.settings.ghj_set_access.Kinds.r p.settings.ghj_set_access.Reads.Asked p.settings.ghj_set_access.Reads.Learnt
-ghj-set-access-unique κs a ok z z′ w w′ q q′ = coder q q′
+ghj-set-access-unique κs a ok z z′ w w′ q q′ = coder 1 q q′
 
 pub ghj-set-access-apply-unique : Unique p.settings.ghj_set_access_apply.Kinds.ps p.settings.ghj_set_access_apply.Kinds.r p.settings.ghj_set_access_apply.Reads.Asked p.settings.ghj_set_access_apply.Reads.Learnt
-ghj-set-access-apply-unique κs a ok z z′ w w′ q q′ = coder5 q q′
-
--- the buffer the last of seven
-pub coder7 : {message : Outcome (List ℕ)} {n n′ : ℕ} {before after after′ : List ℕ} → Codes message n before after → Codes message n′ before after′
-    → (n ≡ n′) × (_≡_ {A = Unit {0} × (Unit {0} × (Unit {0} × (Unit {0} × (Unit {0} × (Unit {0} × (List ℕ × Unit {0}))))))} (tt, (tt, (tt, (tt, (tt, (tt, (after, tt))))))) (tt, (tt, (tt, (tt, (tt, (tt, (after′, tt))))))))
-coder7 q q′ = (both (q .answers) (q′ .answers), ap (λ x. (tt, (tt, (tt, (tt, (tt, (tt, (x, tt)))))))) (both (q .leaves) (q′ .leaves)))
+ghj-set-access-apply-unique κs a ok z z′ w w′ q q′ = coder 4 q q′
 
 pub ghj-tagged-step-unique : Unique p.tagged_records.ghj_tagged_step.Kinds.ps p.tagged_records.ghj_tagged_step.Kinds.r p.tagged_records.ghj_tagged_step.Reads.Asked p.tagged_records.ghj_tagged_step.Reads.Learnt
-ghj-tagged-step-unique κs a ok z z′ w w′ q q′ = coder3 q q′
+ghj-tagged-step-unique κs a ok z z′ w w′ q q′ = coder 2 q q′
 
 pub ghj-tagged-count-unique : Unique p.tagged_records.ghj_tagged_count.Kinds.ps p.tagged_records.ghj_tagged_count.Kinds.r p.tagged_records.ghj_tagged_count.Reads.Asked p.tagged_records.ghj_tagged_count.Reads.Learnt
 ghj-tagged-count-unique κs a ok z z′ w w′ q q′ = (both q q′, refl)
 
 pub ghj-tagged-numbers-unique : Unique p.tagged_records.ghj_tagged_numbers.Kinds.ps p.tagged_records.ghj_tagged_numbers.Kinds.r p.tagged_records.ghj_tagged_numbers.Reads.Asked p.tagged_records.ghj_tagged_numbers.Reads.Learnt
-ghj-tagged-numbers-unique κs a ok z z′ w w′ q q′ = coder q q′
+ghj-tagged-numbers-unique κs a ok z z′ w w′ q q′ = coder 1 q q′
 
 pub ghj-tagged-listing-unique : Unique p.tagged_records.ghj_tagged_listing.Kinds.ps p.tagged_records.ghj_tagged_listing.Kinds.r p.tagged_records.ghj_tagged_listing.Reads.Asked p.tagged_records.ghj_tagged_listing.Reads.Learnt
-ghj-tagged-listing-unique κs a ok z z′ w w′ q q′ = coder q q′
+ghj-tagged-listing-unique κs a ok z z′ w w′ q q′ = coder 1 q q′
 
 pub ghj-tagged-algorithms-unique : Unique p.tagged_records.ghj_tagged_algorithms.Kinds.ps p.tagged_records.ghj_tagged_algorithms.Kinds.r p.tagged_records.ghj_tagged_algorithms.Reads.Asked p.tagged_records.ghj_tagged_algorithms.Reads.Learnt
-ghj-tagged-algorithms-unique κs a ok z z′ w w′ q q′ = coder q q′
+ghj-tagged-algorithms-unique κs a ok z z′ w w′ q q′ = coder 1 q q′
 
 pub ghj-tagged-write-unique : Unique p.tagged_records.ghj_tagged_write.Kinds.ps p.tagged_records.ghj_tagged_write.Kinds.r p.tagged_records.ghj_tagged_write.Reads.Asked p.tagged_records.ghj_tagged_write.Reads.Learnt
-ghj-tagged-write-unique κs a ok z z′ w w′ q q′ = coder7 q q′
+ghj-tagged-write-unique κs a ok z z′ w w′ q q′ = coder 6 q q′

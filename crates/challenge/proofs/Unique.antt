@@ -1,6 +1,5 @@
 -- Any two outcomes that a public function's promise allows at the same arguments coincide.
 use mathlib.Core.Path.{refl}
-use denote.Ref.{now}
 use Rattle.base.proofs.Unique.{Unique, UniquePart, both, writer}
 use Rattle.base.proofs.verdict.Laws.{beside}
 use Rattle.challenge.proofs as p
@@ -12,10 +11,10 @@ pub get-session-challenge-auth-type-unique : Unique p.get_session_challenge.GetS
 get-session-challenge-auth-type-unique κs a ok z z′ w w′ q q′ = (both q q′, refl)
 
 pub get-session-challenge-username-unique : Unique p.get_session_challenge.GetSessionChallenge.username.Kinds.ps p.get_session_challenge.GetSessionChallenge.username.Kinds.r p.get_session_challenge.GetSessionChallenge.username.Reads.Asked p.get_session_challenge.GetSessionChallenge.username.Reads.Learnt
-get-session-challenge-username-unique κs a ok z z′ w w′ q q′ = writer q q′
+get-session-challenge-username-unique κs a ok z z′ w w′ q q′ = writer 1 q q′
 
 pub get-session-challenge-write-unique : Unique p.get_session_challenge.GetSessionChallenge.write.Kinds.ps p.get_session_challenge.GetSessionChallenge.write.Kinds.r p.get_session_challenge.GetSessionChallenge.write.Reads.Asked p.get_session_challenge.GetSessionChallenge.write.Reads.Learnt
-get-session-challenge-write-unique κs a ok z z′ w w′ q q′ = writer q q′
+get-session-challenge-write-unique κs a ok z z′ w w′ q q′ = writer 1 q q′
 
 pub get-session-challenge-read-unique : Unique p.get_session_challenge.GetSessionChallenge.read.Kinds.ps p.get_session_challenge.GetSessionChallenge.read.Kinds.r p.get_session_challenge.GetSessionChallenge.read.Reads.Asked p.get_session_challenge.GetSessionChallenge.read.Reads.Learnt
 get-session-challenge-read-unique κs a ok z z′ w w′ q q′ = (beside (λ verdict command. record { verdict = verdict; command = command }) q q′, refl)
@@ -24,8 +23,7 @@ pub session-challenge-parse-unique : Unique p.get_session_challenge.SessionChall
 session-challenge-parse-unique κs a ok z z′ w w′ q q′ = (beside (λ verdict challenge. record { verdict = verdict; challenge = challenge }) q q′, refl)
 
 pub session-challenge-write-unique : Unique p.get_session_challenge.SessionChallenge.write.Kinds.ps p.get_session_challenge.SessionChallenge.write.Kinds.r p.get_session_challenge.SessionChallenge.write.Reads.Asked p.get_session_challenge.SessionChallenge.write.Reads.Learnt
-session-challenge-write-unique κs a ok z z′ w w′ q q′ = writer q q′
+session-challenge-write-unique κs a ok z z′ w w′ q q′ = writer 1 q q′
 
--- a returned part: its bytes are fixed; where it lies is the lent bytes' own
-pub shown-unique : UniquePart p.get_session_challenge.shown.Kinds.ps p.get_session_challenge.shown.Kinds.r p.get_session_challenge.shown.Reads.Asked p.get_session_challenge.shown.Reads.Learnt (λ κs z. now z)
-shown-unique κs a ok z z′ w w′ q q′ = (both q q′, refl)
+pub shown-unique : UniquePart p.get_session_challenge.shown.Kinds.ps p.get_session_challenge.shown.Kinds.r p.get_session_challenge.shown.Reads.Asked p.get_session_challenge.shown.Reads.Learnt (λ κs z. z)
+shown-unique κs a ok z z′ w w′ q q′ = ((both (q .lies) (q′ .lies), both (q .shows) (q′ .shows)), refl)

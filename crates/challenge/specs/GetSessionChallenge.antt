@@ -1,12 +1,13 @@
 -- Get Session Challenge. Document 01, refusals 1, 3 and 8, "The name is padded with zeros and shown up to its first zero"; IPMI 2.0, 22.16.
-use Prim.Native.Nat.{ℕ}
+use Prim.Native.Nat.{ℕ, _^_, _<_}
 use mathlib.Core.List.{List, [], _∷_, _++_}
 use lib.ListN.{length, drop, replicate}
 use Rattle.base.specs.Choice.{if_then_else_, _<?_, _=?_}
-use Rattle.base.specs.Field.{byte}
+use Rattle.base.specs.Field.{Array, byte}
 use Rattle.base.specs.Little.{little, littleBytes}
 use Rattle.base.specs.Named.{named, required}
 use Rattle.base.specs.Outcome.{Outcome, accepted, refused, _>>=_}
+use Rattle.base.specs.Request.{request}
 use Rattle.base.specs.Written.{padded}
 use Rattle.auth.specs.Auth.{authTypeValue, authTypes}
 use Rattle.auth.specs.Session.{nonZero}
@@ -29,17 +30,19 @@ noCommand = command None (replicate 16 0)
 abbrev pub commandFor : AuthType → List ℕ → Outcome GetSessionChallenge
 commandFor kind name = if 16 <? length name then refused 8 [] else accepted (command kind (padded 16 name))
 
+-- what every command of the machine has
+abbrev pub TypedCommand : GetSessionChallenge → Type 0
+TypedCommand c = Array 16 (c .username)
+
 -- "request 39h, 17 bytes"
 abbrev pub commandBytes : GetSessionChallenge → List ℕ
 commandBytes c = authTypeValue (c .«auth_type») ∷ c .username
 
--- "a request reader turns every fault into 10"; the whole first byte counts
+-- the same, read: "a request reader turns every fault into 10"; the whole first byte counts
 abbrev pub commandOf : List ℕ → Outcome GetSessionChallenge
-commandOf request =
-    if length request =? 17 then (do
-      kind ← required 10 [] (named authTypes (byte 0 request))
-      accepted (command kind (drop 1 request)))
-    else refused 10 []
+commandOf bytes = request 17 bytes (do
+  kind ← required 10 [] (named authTypes (byte 0 bytes))
+  accepted (command kind (drop 1 bytes)))
 
 -- "shown up to its first zero"
 unfoldable pub shown : List ℕ → List ℕ
@@ -55,6 +58,11 @@ challenge id string = record { «temporary_session_id» = id; «challenge_string
 -- stands beside a refusal
 abbrev pub noChallenge : SessionChallenge
 noChallenge = challenge 0 (replicate 16 0)
+
+-- what every challenge of the machine has: its number has four bytes
+pub record Typed (c : SessionChallenge) : Type 0 where
+  pub id : c .«temporary_session_id» < 2 ^ 32
+  pub string : Array 16 (c .«challenge_string»)
 
 -- "challenge 1, then 3"
 abbrev pub challengeOf : List ℕ → Outcome SessionChallenge

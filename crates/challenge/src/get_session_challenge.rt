@@ -1,7 +1,8 @@
 // Get Session Challenge, App 39h: IPMI 2.0, 22.16; the Rust's get_session_challenge.rs.
 ghost use mathlib.Core.Path.{_≡_};
-ghost use Rattle.challenge.specs.GetSessionChallenge.{challengeBytes, challengeOf, commandBytes, commandFor, commandOf, noChallenge, noCommand, shown};
+ghost use Rattle.challenge.specs.GetSessionChallenge.{Typed, TypedCommand, challengeBytes, challengeOf, commandBytes, commandFor, commandOf, noChallenge, noCommand, shown};
 ghost use Rattle.base.specs.Outcome.{accepted};
+ghost use Rattle.base.specs.Part.{Part};
 ghost use Rattle.base.specs.Verdict.{Gives};
 ghost use Rattle.base.specs.Written.{Writes};
 ghost use lib.ListN.{length};
@@ -42,13 +43,20 @@ fn first_zero(name: &[u8]) -> usize
 
 // The part of a name that is shown: up to its first zero.
 pub fn shown(name: &[u8]) -> &[u8]
-    ensures { λ r. ⌜ now r ≡ shown (now (name .entry)) ⌝ }
+    ensures { λ r. ⌜ Part (name .entry) r (shown (now (name .entry))) ⌝ }
 {
     let end = first_zero(name);
     &name[0..end]
 }
 
 impl GetSessionChallenge {
+    pub const COMMAND: u8 = 0x39;
+
+    // What the laws ask of a command.
+    fn typed(self)
+        ensures { λ _. ⌜ TypedCommand self ⌝ }
+    {}
+
     fn refused(refusal: Refusal) -> CommandAnswer
         ensures { λ r. ⌜ r ≡ record { verdict = Verdict.Refused refusal; command = noCommand } ⌝ }
     {
@@ -134,6 +142,11 @@ pub struct ChallengeAnswer {
 }
 
 impl SessionChallenge {
+    // What the laws ask of a challenge.
+    fn typed(self)
+        ensures { λ _. ⌜ Typed self ⌝ }
+    {}
+
     fn refused(refusal: Refusal) -> ChallengeAnswer
         ensures { λ r. ⌜ r ≡ record { verdict = Verdict.Refused refusal; challenge = noChallenge } ⌝ }
     {

@@ -21,7 +21,7 @@ pub get-channel-access-numbered-unique : Unique p.get_channel_access.GetChannelA
 get-channel-access-numbered-unique κs a ok z z′ w w′ q q′ = (command-one z z′ (both q q′), refl)
 
 pub get-channel-access-write-unique : Unique p.get_channel_access.GetChannelAccess.write.Kinds.ps p.get_channel_access.GetChannelAccess.write.Kinds.r p.get_channel_access.GetChannelAccess.write.Reads.Asked p.get_channel_access.GetChannelAccess.write.Reads.Learnt
-get-channel-access-write-unique κs a ok z z′ w w′ q q′ = writer q q′
+get-channel-access-write-unique κs a ok z z′ w w′ q q′ = writer 1 q q′
 
 pub get-channel-access-read-unique : Unique p.get_channel_access.GetChannelAccess.read.Kinds.ps p.get_channel_access.GetChannelAccess.read.Kinds.r p.get_channel_access.GetChannelAccess.read.Reads.Asked p.get_channel_access.GetChannelAccess.read.Reads.Learnt
 get-channel-access-read-unique κs a ok z z′ w w′ q q′ = (command-one z z′ (both q q′), refl)
@@ -33,7 +33,7 @@ pub channel-access-is-disabled-unique : Unique p.get_channel_access.ChannelAcces
 channel-access-is-disabled-unique κs a ok z z′ w w′ q q′ = (both q q′, refl)
 
 pub channel-access-write-unique : Unique p.get_channel_access.ChannelAccess.write.Kinds.ps p.get_channel_access.ChannelAccess.write.Kinds.r p.get_channel_access.ChannelAccess.write.Reads.Asked p.get_channel_access.ChannelAccess.write.Reads.Learnt
-channel-access-write-unique κs a ok z z′ w w′ q q′ = writer q q′
+channel-access-write-unique κs a ok z z′ w w′ q q′ = writer 1 q q′
 
 pub channel-access-mode-from-unique : Unique p.get_channel_access.ChannelAccessMode.from.Kinds.ps p.get_channel_access.ChannelAccessMode.from.Kinds.r p.get_channel_access.ChannelAccessMode.from.Reads.Asked p.get_channel_access.ChannelAccessMode.from.Reads.Learnt
 channel-access-mode-from-unique κs a ok z z′ w w′ q q′ = (both q q′, refl)
@@ -45,7 +45,7 @@ pub channel-access-mode-field-unique : Unique p.get_channel_access.ChannelAccess
 channel-access-mode-field-unique κs a ok z z′ w w′ q q′ = (field-one z z′ (both q q′), refl)
 
 pub channel-access-mode-text-unique : Unique p.get_channel_access.ChannelAccessMode.text.Kinds.ps p.get_channel_access.ChannelAccessMode.text.Kinds.r p.get_channel_access.ChannelAccessMode.text.Reads.Asked p.get_channel_access.ChannelAccessMode.text.Reads.Learnt
-channel-access-mode-text-unique κs a ok z z′ w w′ q q′ = writer q q′
+channel-access-mode-text-unique κs a ok z z′ w w′ q q′ = writer 1 q q′
 
 pub channel-privilege-level-from-unique : Unique p.get_channel_access.ChannelPrivilegeLevel.from.Kinds.ps p.get_channel_access.ChannelPrivilegeLevel.from.Kinds.r p.get_channel_access.ChannelPrivilegeLevel.from.Reads.Asked p.get_channel_access.ChannelPrivilegeLevel.from.Reads.Learnt
 channel-privilege-level-from-unique κs a ok z z′ w w′ q q′ = (both q q′, refl)
@@ -57,4 +57,4 @@ pub channel-privilege-level-field-unique : Unique p.get_channel_access.ChannelPr
 channel-privilege-level-field-unique κs a ok z z′ w w′ q q′ = (field-one z z′ (both q q′), refl)
 
 pub channel-privilege-level-text-unique : Unique p.get_channel_access.ChannelPrivilegeLevel.text.Kinds.ps p.get_channel_access.ChannelPrivilegeLevel.text.Kinds.r p.get_channel_access.ChannelPrivilegeLevel.text.Reads.Asked p.get_channel_access.ChannelPrivilegeLevel.text.Reads.Learnt
-channel-privilege-level-text-unique κs a ok z z′ w w′ q q′ = writer q q′
+channel-privilege-level-text-unique κs a ok z z′ w w′ q q′ = writer 1 q q′

@@ -6,8 +6,9 @@ use lib.ListN.{length, getD}
 use Rattle.base.specs.Choice.{if_then_else_, _<?_, _=?_}
 use Rattle.base.specs.Connection.{channelOf, channelField}
 use Rattle.base.specs.Field.{byte, bits, flag, raised, within}
-use Rattle.base.specs.Outcome.{Outcome, accepted, refused, _>>=_, faultsAs}
+use Rattle.base.specs.Outcome.{Outcome, accepted, refused, _>>=_}
 use Rattle.base.specs.Refusal.{refusal}
+use Rattle.base.specs.Request.{request}
 use Rattle.base.specs.Text.{ascii, coded}
 use Rattle.base.specs.declared.connection.Channel.{Channel}
 use Rattle.channel.specs.declared.get_channel_access.AccessAnswer.{AccessAnswer}
@@ -62,14 +63,12 @@ commandBytes c = do
   channel ← channelField (c .channel)
   accepted (channel ∷ typeByte (c .«access_type») ∷ [])
 
--- "a request reader turns every fault into 10"
+-- the same, read: "a request reader turns every fault into 10"
 abbrev pub commandOf : List ℕ → Outcome GetChannelAccess
-commandOf request =
-    if length request =? 2 then faultsAs 10 (do
-      channel ← channelOf (byte 0 request)
-      kind ← typeOf (byte 1 request)
-      accepted (command channel kind))
-    else refused 10 []
+commandOf bytes = request 2 bytes (do
+  channel ← channelOf (byte 0 bytes)
+  kind ← typeOf (byte 1 bytes)
+  accepted (command channel kind))
 
 -- The response: byte 0 has the mode and three flags, byte 1 the limit.
 

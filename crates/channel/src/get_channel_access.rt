@@ -43,6 +43,8 @@ pub enum CommandAnswer {
 }
 
 impl GetChannelAccess {
+    pub const COMMAND: u8 = 0x41;
+
     pub fn new(channel: Channel, access_type: ChannelAccessType) -> Self
         ensures { λ r. ⌜ r ≡ command channel «access_type» ⌝ }
     {

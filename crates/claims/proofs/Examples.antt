@@ -90,5 +90,5 @@ examples =
     ∷ []
 
 pub examples-hold : map (λ (r : Row). r .what gives r .what) examples ≡ map (λ (r : Row). r .what gives r .answer) examples
-unfolding examples Suites.stepAfter Suites.upTo
+unfolding examples Suites.stepAfter Suites.suites Suites.upTo
 examples-hold = rw (P11, P12-first, P12-then, P13, sixteen-at-63, seventeen-at-63)

@@ -1,6 +1,6 @@
 -- Any two outcomes that a public function's promise allows at the same arguments coincide.
 use mathlib.Core.Path.{refl}
-use Rattle.base.proofs.Unique.{Unique, both, writer, writer3}
+use Rattle.base.proofs.Unique.{Unique, both, writer}
 use Rattle.base.proofs.verdict.Laws.{beside}
 use Rattle.collector.proofs as p
 use Rattle.collector.proofs.Said.{status-one}
@@ -13,7 +13,7 @@ pub status-in-unique : Unique p.status_in.Kinds.ps p.status_in.Kinds.r p.status_
 status-in-unique κs a ok z z′ w w′ q q′ = (status-one z z′ (both q q′), refl)
 
 pub list-in-unique : Unique p.list_in.Kinds.ps p.list_in.Kinds.r p.list_in.Reads.Asked p.list_in.Reads.Learnt
-list-in-unique κs a ok z z′ w w′ q q′ = writer3 q q′
+list-in-unique κs a ok z z′ w w′ q q′ = writer 2 q q′
 
 pub answer-lent-unique : UniqueWalk p.answer_lent.ended (λ M 𝓤 H A mem run. p.answer_lent.clauses 𝓤 H A mem run)
 answer-lent-unique M 𝓤 H A mem run κs a g z z′ w w′ = facts 𝓤 (λ q q′. (beside (λ verdict left. verdict) q q′, beside (λ verdict left. (left, (tt, (tt, tt)))) q q′))
@@ -28,4 +28,4 @@ pub collector-status-unique : Unique p.Collector.status.Kinds.ps p.Collector.sta
 collector-status-unique κs a ok z z′ w w′ q q′ = (status-one z z′ (both q q′), refl)
 
 pub collector-list-unique : Unique p.Collector.list.Kinds.ps p.Collector.list.Kinds.r p.Collector.list.Reads.Asked p.Collector.list.Reads.Learnt
-collector-list-unique κs a ok z z′ w w′ q q′ = writer q q′
+collector-list-unique κs a ok z z′ w w′ q q′ = writer 1 q q′

@@ -11,7 +11,7 @@ pub get-channel-info-numbered-unique : Unique p.get_channel_info.GetChannelInfo.
 get-channel-info-numbered-unique κs a ok z z′ w w′ q q′ = (command-one z z′ (both q q′), refl)
 
 pub get-channel-info-write-unique : Unique p.get_channel_info.GetChannelInfo.write.Kinds.ps p.get_channel_info.GetChannelInfo.write.Kinds.r p.get_channel_info.GetChannelInfo.write.Reads.Asked p.get_channel_info.GetChannelInfo.write.Reads.Learnt
-get-channel-info-write-unique κs a ok z z′ w w′ q q′ = writer q q′
+get-channel-info-write-unique κs a ok z z′ w w′ q q′ = writer 1 q q′
 
 pub get-channel-info-read-unique : Unique p.get_channel_info.GetChannelInfo.read.Kinds.ps p.get_channel_info.GetChannelInfo.read.Kinds.r p.get_channel_info.GetChannelInfo.read.Reads.Asked p.get_channel_info.GetChannelInfo.read.Reads.Learnt
 get-channel-info-read-unique κs a ok z z′ w w′ q q′ = (command-one z z′ (both q q′), refl)
@@ -20,4 +20,4 @@ pub channel-info-parse-unique : Unique p.get_channel_info.ChannelInfo.parse.Kind
 channel-info-parse-unique κs a ok z z′ w w′ q q′ = (info-one z z′ (both q q′), refl)
 
 pub channel-info-write-unique : Unique p.get_channel_info.ChannelInfo.write.Kinds.ps p.get_channel_info.ChannelInfo.write.Kinds.r p.get_channel_info.ChannelInfo.write.Reads.Asked p.get_channel_info.ChannelInfo.write.Reads.Learnt
-channel-info-write-unique κs a ok z z′ w w′ q q′ = writer q q′
+channel-info-write-unique κs a ok z z′ w w′ q q′ = writer 1 q q′

@@ -2,12 +2,13 @@
 use Prim.Native.Nat.{ℕ, _+_, _*_, _^_}
 use mathlib.Core.List.{List, [], _∷_, _++_}
 use lib.ListN.{length}
-use Rattle.base.specs.Choice.{if_then_else_, _<?_, _=?_}
+use Rattle.base.specs.Choice.{if_then_else_, _<?_}
 use Rattle.base.specs.Connection.{channelOf, channelField}
-use Rattle.base.specs.Field.{byte, bits, within}
+use Rattle.base.specs.Field.{Bytes, byte, bits, within}
 use Rattle.base.specs.Little.{little, littleBytes}
 use Rattle.base.specs.Outcome.{Outcome, accepted, refused, _>>=_, faultsAs}
 use Rattle.base.specs.Refusal.{refusal}
+use Rattle.base.specs.Request.{request}
 use Rattle.base.specs.declared.connection.Channel.{Channel}
 use Rattle.media.specs.Media.{mediumField, mediumOf, protocolField, protocolOf, sessionField, sessionOf}
 use Rattle.info.specs.declared.get_channel_info.ChannelInfo.{ChannelInfo}
@@ -45,15 +46,17 @@ commandBytes c = do
   channel ← channelField (c .channel)
   accepted (channel ∷ [])
 
--- "a request reader turns every fault into 10"
+-- the same, read: "a request reader turns every fault into 10"
 abbrev pub commandOf : List ℕ → Outcome GetChannelInfo
-commandOf request =
-    if length request =? 1 then faultsAs 10 (do
-      channel ← channelOf (byte 0 request)
-      accepted (command channel))
-    else refused 10 []
+commandOf bytes = request 1 bytes (do
+  channel ← channelOf (byte 0 bytes)
+  accepted (command channel))
 
 -- The response.
+
+-- what every record of the machine has: its auxiliary bytes are bytes
+abbrev pub Typed : ChannelInfo → Type 0
+Typed i = Bytes (i .«aux_info» .byte1 ∷ i .«aux_info» .byte2 ∷ [])
 
 -- the fields of the response, but for the channel
 abbrev pub infoFields : List ℕ → Channel → ChannelInfo

@@ -1,11 +1,12 @@
 // Get Channel Info, App 42h: IPMI 2.0, Table 22-29; the Rust's get_channel_info.rs.
 ghost use mathlib.Core.Path.{_≡_};
-ghost use Rattle.info.specs.GetChannelInfo.{command, commandBytes, commandFor, commandOf, infoBytes, infoOf, saidCommand, saidInfo};
+ghost use Rattle.info.specs.GetChannelInfo.{Typed, command, commandBytes, commandFor, commandOf, infoBytes, infoOf, saidCommand, saidInfo};
 ghost use Rattle.base.specs.Written.{Writes};
 use base::connection::Channel;
 use base::connection::ChannelAnswer;
 use base::field::FieldAnswer;
 use base::field::bits;
+use base::little::bytes3;
 use base::little::number3;
 use base::refusal::Refusal;
 use base::written::Written;
@@ -26,6 +27,8 @@ pub enum CommandAnswer {
 }
 
 impl GetChannelInfo {
+    pub const COMMAND: u8 = 0x42;
+
     pub fn new(channel: Channel) -> Self
         ensures { λ r. ⌜ r ≡ command channel ⌝ }
     {
@@ -88,6 +91,11 @@ pub enum InfoAnswer {
 }
 
 impl ChannelInfo {
+    // What the laws ask of a record.
+    fn typed(self)
+        ensures { λ _. ⌜ Typed self ⌝ }
+    {}
+
     // A bad channel is refused as a short response is.
     pub fn parse(response: &[u8]) -> InfoAnswer
         ensures { λ r. ⌜ saidInfo r ≡ infoOf (now (response .entry)) ⌝ }
@@ -143,11 +151,9 @@ impl ChannelInfo {
         }
         let aux = self.aux_info;
         let sessions = session * 64 + active;
-        let low = (vendor % 256) as u8;
-        let middle = (vendor / 256 % 256) as u8;
-        let high = (vendor / 256 / 256 % 256) as u8;
+        let id = bytes3(vendor);
         let head = [channel, medium, protocol, sessions];
-        let rest = [low, middle, high, aux.byte1, aux.byte2];
+        let rest = [id[0], id[1], id[2], aux.byte1, aux.byte2];
         join(&head, &rest, out)
     }
 }

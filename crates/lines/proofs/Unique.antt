@@ -11,13 +11,13 @@ pub pair-value-unique : Unique p.pair_value.Kinds.ps p.pair_value.Kinds.r p.pair
 pair-value-unique κs a ok z z′ w w′ q q′ = (byte-one z z′ (both q q′), refl)
 
 pub read-pairs-unique : Unique p.read_pairs.Kinds.ps p.read_pairs.Kinds.r p.read_pairs.Reads.Asked p.read_pairs.Reads.Learnt
-read-pairs-unique κs a ok z z′ w w′ q q′ = writer q q′
+read-pairs-unique κs a ok z z′ w w′ q q′ = writer 1 q q′
 
 pub hex-unique : Unique p.hex.Kinds.ps p.hex.Kinds.r p.hex.Reads.Asked p.hex.Reads.Learnt
-hex-unique κs a ok z z′ w w′ q q′ = writer q q′
+hex-unique κs a ok z z′ w w′ q q′ = writer 1 q q′
 
 pub decimal-unique : Unique p.decimal.Kinds.ps p.decimal.Kinds.r p.decimal.Reads.Asked p.decimal.Reads.Learnt
-decimal-unique κs a ok z z′ w w′ q q′ = writer q q′
+decimal-unique κs a ok z z′ w w′ q q′ = writer 1 q q′
 
 pub newline-from-unique : Unique p.newline_from.Kinds.ps p.newline_from.Kinds.r p.newline_from.Reads.Asked p.newline_from.Reads.Learnt
 newline-from-unique κs a ok z z′ w w′ q q′ = (both q q′, refl)

@@ -14,7 +14,7 @@ pub channel-medium-type-field-unique : Unique p.get_channel_info.ChannelMediumTy
 channel-medium-type-field-unique κs a ok z z′ w w′ q q′ = (field-one z z′ (both q q′), refl)
 
 pub channel-medium-type-text-unique : Unique p.get_channel_info.ChannelMediumType.text.Kinds.ps p.get_channel_info.ChannelMediumType.text.Kinds.r p.get_channel_info.ChannelMediumType.text.Reads.Asked p.get_channel_info.ChannelMediumType.text.Reads.Learnt
-channel-medium-type-text-unique κs a ok z z′ w w′ q q′ = writer q q′
+channel-medium-type-text-unique κs a ok z z′ w w′ q q′ = writer 1 q q′
 
 pub channel-protocol-type-from-unique : Unique p.get_channel_info.ChannelProtocolType.from.Kinds.ps p.get_channel_info.ChannelProtocolType.from.Kinds.r p.get_channel_info.ChannelProtocolType.from.Reads.Asked p.get_channel_info.ChannelProtocolType.from.Reads.Learnt
 channel-protocol-type-from-unique κs a ok z z′ w w′ q q′ = (both q q′, refl)
@@ -26,7 +26,7 @@ pub channel-protocol-type-field-unique : Unique p.get_channel_info.ChannelProtoc
 channel-protocol-type-field-unique κs a ok z z′ w w′ q q′ = (field-one z z′ (both q q′), refl)
 
 pub channel-protocol-type-text-unique : Unique p.get_channel_info.ChannelProtocolType.text.Kinds.ps p.get_channel_info.ChannelProtocolType.text.Kinds.r p.get_channel_info.ChannelProtocolType.text.Reads.Asked p.get_channel_info.ChannelProtocolType.text.Reads.Learnt
-channel-protocol-type-text-unique κs a ok z z′ w w′ q q′ = writer q q′
+channel-protocol-type-text-unique κs a ok z z′ w w′ q q′ = writer 1 q q′
 
 pub channel-session-support-from-unique : Unique p.get_channel_info.ChannelSessionSupport.from.Kinds.ps p.get_channel_info.ChannelSessionSupport.from.Kinds.r p.get_channel_info.ChannelSessionSupport.from.Reads.Asked p.get_channel_info.ChannelSessionSupport.from.Reads.Learnt
 channel-session-support-from-unique κs a ok z z′ w w′ q q′ = (both q q′, refl)
@@ -38,4 +38,4 @@ pub channel-session-support-field-unique : Unique p.get_channel_info.ChannelSess
 channel-session-support-field-unique κs a ok z z′ w w′ q q′ = (field-one z z′ (both q q′), refl)
 
 pub channel-session-support-text-unique : Unique p.get_channel_info.ChannelSessionSupport.text.Kinds.ps p.get_channel_info.ChannelSessionSupport.text.Kinds.r p.get_channel_info.ChannelSessionSupport.text.Reads.Asked p.get_channel_info.ChannelSessionSupport.text.Reads.Learnt
-channel-session-support-text-unique κs a ok z z′ w w′ q q′ = writer q q′
+channel-session-support-text-unique κs a ok z z′ w w′ q q′ = writer 1 q q′

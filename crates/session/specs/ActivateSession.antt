@@ -1,13 +1,14 @@
 -- Activate Session. Document 01, refusals 1, 3, 4 and 5, "activation 1, then 4, 3, 5"; IPMI 2.0, 22.17.
-use Prim.Native.Nat.{ℕ}
+use Prim.Native.Nat.{ℕ, _^_, _<_}
 use mathlib.Core.List.{List, [], _∷_, _++_}
 use lib.ListN.{length, take, drop, replicate}
-use Rattle.base.specs.Choice.{if_then_else_, _<?_, _=?_}
-use Rattle.base.specs.Field.{byte}
+use Rattle.base.specs.Choice.{if_then_else_, _<?_}
+use Rattle.base.specs.Field.{Array, byte}
 use Rattle.base.specs.Little.{little, littleBytes}
 use Rattle.base.specs.Named.{named, required}
 use Rattle.base.specs.Outcome.{Outcome, accepted, refused, _>>=_}
 use Rattle.base.specs.Refusal.{refusal}
+use Rattle.base.specs.Request.{request}
 use Rattle.auth.specs.Auth.{authTypeOf, authTypeValue, authTypes, privileges, privilegeOf, privilegeValue}
 use Rattle.auth.specs.Session.{nonZero}
 use Rattle.auth.specs.declared.AuthType.{AuthType}
@@ -35,21 +36,29 @@ command kind level challenge first =
 abbrev pub noCommand : ActivateSession
 noCommand = command None Callback (replicate 16 0) 0
 
+-- what every command of the machine has: its number has four bytes
+pub record TypedCommand (c : ActivateSession) : Type 0 where
+  pub challenge : Array 16 (c .«challenge_string»)
+  pub first : c .«initial_sequence_number» < 2 ^ 32
+
 -- "request 3Ah, 22 bytes"
 abbrev pub commandBytes : ActivateSession → List ℕ
 commandBytes c =
     authTypeValue (c .«auth_type») ∷ privilegeValue (c .«maximum_privilege_level») ∷ c .«challenge_string» ++ littleBytes 4 (c .«initial_sequence_number»)
 
--- "a request reader turns every fault into 10"; the whole first two bytes count
+-- the same, read: "a request reader turns every fault into 10"; the whole first two bytes count
 abbrev pub commandOf : List ℕ → Outcome ActivateSession
-commandOf request =
-    if length request =? 22 then (do
-      kind ← required 10 [] (named authTypes (byte 0 request))
-      level ← required 10 [] (named privileges (byte 1 request))
-      accepted (command kind level (take 16 (drop 2 request)) (little (byte 18 request ∷ byte 19 request ∷ byte 20 request ∷ byte 21 request ∷ []))))
-    else refused 10 []
+commandOf bytes = request 22 bytes (do
+  kind ← required 10 [] (named authTypes (byte 0 bytes))
+  level ← required 10 [] (named privileges (byte 1 bytes))
+  accepted (command kind level (take 16 (drop 2 bytes)) (little (drop 18 bytes))))
 
 -- The response: authentication type, session number, sequence number, level.
+
+-- what every record of the machine has: its numbers have four bytes
+pub record Typed (s : BeginSessionInfo) : Type 0 where
+  pub id : s .«session_id» < 2 ^ 32
+  pub first : s .«initial_sequence_number» < 2 ^ 32
 
 -- the low nibble of the authentication byte counts (document 02, C-18), and that of the level; 4 and 5 carry the whole byte
 abbrev pub beginOf : List ℕ → Outcome BeginSessionInfo

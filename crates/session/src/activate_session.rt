@@ -1,6 +1,6 @@
 // Activate Session, App 3Ah: IPMI 2.0, 22.17; the Rust's activate_session.rs.
 ghost use mathlib.Core.Path.{_≡_};
-ghost use Rattle.session.specs.ActivateSession.{beginBytes, beginOf, commandBytes, commandOf, noCommand, saidBegin};
+ghost use Rattle.session.specs.ActivateSession.{Typed, TypedCommand, beginBytes, beginOf, commandBytes, commandOf, noCommand, saidBegin};
 ghost use Rattle.base.specs.Outcome.{accepted};
 ghost use Rattle.base.specs.Verdict.{Gives};
 ghost use Rattle.base.specs.Written.{Writes};
@@ -29,6 +29,13 @@ pub struct CommandAnswer {
 }
 
 impl ActivateSession {
+    pub const COMMAND: u8 = 0x3A;
+
+    // What the laws ask of a command.
+    fn typed(self)
+        ensures { λ _. ⌜ TypedCommand self ⌝ }
+    {}
+
     fn refused(refusal: Refusal) -> CommandAnswer
         ensures { λ r. ⌜ r ≡ record { verdict = Verdict.Refused refusal; command = noCommand } ⌝ }
     {
@@ -101,6 +108,11 @@ pub enum BeginAnswer {
 }
 
 impl BeginSessionInfo {
+    // What the laws ask of a record.
+    fn typed(self)
+        ensures { λ _. ⌜ Typed self ⌝ }
+    {}
+
     // Of the authentication byte and of the level's the low nibble counts; a refusal carries the whole byte.
     pub fn parse(response: &[u8]) -> BeginAnswer
         ensures { λ r. ⌜ saidBegin r ≡ beginOf (now (response .entry)) ⌝ }

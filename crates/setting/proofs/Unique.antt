@@ -18,7 +18,7 @@ pub set-channel-access-numbered-unique : Unique p.set_channel_access.SetChannelA
 set-channel-access-numbered-unique κs a ok z z′ w w′ q q′ = (set-command-one z z′ (both q q′), refl)
 
 pub set-channel-access-write-unique : Unique p.set_channel_access.SetChannelAccess.write.Kinds.ps p.set_channel_access.SetChannelAccess.write.Kinds.r p.set_channel_access.SetChannelAccess.write.Reads.Asked p.set_channel_access.SetChannelAccess.write.Reads.Learnt
-set-channel-access-write-unique κs a ok z z′ w w′ q q′ = writer q q′
+set-channel-access-write-unique κs a ok z z′ w w′ q q′ = writer 1 q q′
 
 pub set-channel-access-read-unique : Unique p.set_channel_access.SetChannelAccess.read.Kinds.ps p.set_channel_access.SetChannelAccess.read.Kinds.r p.set_channel_access.SetChannelAccess.read.Reads.Asked p.set_channel_access.SetChannelAccess.read.Reads.Learnt
 set-channel-access-read-unique κs a ok z z′ w w′ q q′ = (set-command-one z z′ (both q q′), refl)

@@ -2,12 +2,13 @@
 use Prim.Native.Nat.{ℕ, _+_, _*_, _^_}
 use mathlib.Core.Bool.{Bool, true, false}
 use mathlib.Core.List.{List, [], _∷_}
-use lib.ListN.{length, getD, drop}
-use Rattle.base.specs.Choice.{if_then_else_, _=?_}
+use lib.ListN.{getD, drop}
+use Rattle.base.specs.Choice.{if_then_else_}
 use Rattle.base.specs.Connection.{channelOf, channelField}
 use Rattle.base.specs.Field.{byte, bits, within}
-use Rattle.base.specs.Outcome.{Outcome, accepted, refused, _>>=_, faultsAs}
+use Rattle.base.specs.Outcome.{Outcome, accepted, refused, _>>=_}
 use Rattle.base.specs.Refusal.{refusal}
+use Rattle.base.specs.Request.{request}
 use Rattle.base.specs.declared.connection.Channel.{Channel}
 use Rattle.channel.specs.GetChannelAccess.{accessOf, accessBytes}
 use Rattle.channel.specs.declared.get_channel_access.ChannelAccess.{ChannelAccess}
@@ -103,17 +104,15 @@ commandBytes c = do
   parts ← partsBytes c
   accepted (channel ∷ parts)
 
--- "a request reader turns every fault into 10"; bits 5:4 of byte 2 are written 0
+-- the same, read: "a request reader turns every fault into 10"; bits 5:4 of byte 2 are written 0
 abbrev pub commandOf : List ℕ → Outcome SetChannelAccess
-commandOf request =
-    if length request =? 3 then faultsAs 10 (do
-      channel ← channelOf (byte 0 request)
-      modePair ← pairIn (byte 1 request)
-      limitPair ← pairIn (byte 2 request)
-      reserved ← within 0 0 (bits 4 2 (byte 2 request))
-      access ← accessOf (drop 1 request)
-      accepted (command channel modePair limitPair access))
-    else refused 10 []
+commandOf bytes = request 3 bytes (do
+  channel ← channelOf (byte 0 bytes)
+  modePair ← pairIn (byte 1 bytes)
+  limitPair ← pairIn (byte 2 bytes)
+  reserved ← within 0 0 (bits 4 2 (byte 2 bytes))
+  access ← accessOf (drop 1 bytes)
+  accepted (command channel modePair limitPair access))
 
 -- The command applied to "one channel's two settings, non-volatile and volatile, without its number".
 

@@ -140,6 +140,8 @@ pub enum SettingsAnswer {
 }
 
 impl SetChannelAccess {
+    pub const COMMAND: u8 = 0x40;
+
     // For a channel that is given as a number.
     pub fn numbered(
         number: u8,

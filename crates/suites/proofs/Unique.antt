@@ -1,8 +1,7 @@
 -- Any two outcomes that a public function's promise allows at the same arguments coincide.
 use mathlib.Core.Path.{refl, ap}
-use denote.Ref.{now}
 use Rattle.auth.proofs.Said.{authentication-one, confidentiality-one, integrity-one}
-use Rattle.base.proofs.Unique.{Unique, UniquePart, both, writer, writer3}
+use Rattle.base.proofs.Unique.{Unique, UniquePart, both, writer}
 use Rattle.base.proofs.Walked.{UniqueWalk, facts}
 use Rattle.base.proofs.verdict.Laws.{beside}
 use Rattle.suites.proofs as p
@@ -36,7 +35,7 @@ pub get-channel-cipher-suites-numbered-unique : Unique p.get_channel_cipher_suit
 get-channel-cipher-suites-numbered-unique κs a ok z z′ w w′ q q′ = (command-one z z′ (both q q′), refl)
 
 pub get-channel-cipher-suites-write-unique : Unique p.get_channel_cipher_suites.GetChannelCipherSuites.write.Kinds.ps p.get_channel_cipher_suites.GetChannelCipherSuites.write.Kinds.r p.get_channel_cipher_suites.GetChannelCipherSuites.write.Reads.Asked p.get_channel_cipher_suites.GetChannelCipherSuites.write.Reads.Learnt
-get-channel-cipher-suites-write-unique κs a ok z z′ w w′ q q′ = writer q q′
+get-channel-cipher-suites-write-unique κs a ok z z′ w w′ q q′ = writer 1 q q′
 
 pub get-channel-cipher-suites-read-unique : Unique p.get_channel_cipher_suites.GetChannelCipherSuites.read.Kinds.ps p.get_channel_cipher_suites.GetChannelCipherSuites.read.Kinds.r p.get_channel_cipher_suites.GetChannelCipherSuites.read.Reads.Asked p.get_channel_cipher_suites.GetChannelCipherSuites.read.Reads.Learnt
 get-channel-cipher-suites-read-unique κs a ok z z′ w w′ q q′ = (command-one z z′ (both q q′), refl)
@@ -45,23 +44,22 @@ pub channel-cipher-suites-parse-unique : Unique p.get_channel_cipher_suites.Chan
 channel-cipher-suites-parse-unique κs a ok z z′ w w′ q q′ = (beside (λ verdict suites. record { verdict = verdict; suites = suites }) q q′, refl)
 
 pub channel-cipher-suites-write-unique : Unique p.get_channel_cipher_suites.ChannelCipherSuites.write.Kinds.ps p.get_channel_cipher_suites.ChannelCipherSuites.write.Kinds.r p.get_channel_cipher_suites.ChannelCipherSuites.write.Reads.Asked p.get_channel_cipher_suites.ChannelCipherSuites.write.Reads.Learnt
-channel-cipher-suites-write-unique κs a ok z z′ w w′ q q′ = writer q q′
+channel-cipher-suites-write-unique κs a ok z z′ w w′ q q′ = writer 1 q q′
 
--- a returned part: its bytes are fixed; where it lies is the lent bytes' own
-pub filled-unique : UniquePart p.get_channel_cipher_suites.filled.Kinds.ps p.get_channel_cipher_suites.filled.Kinds.r p.get_channel_cipher_suites.filled.Reads.Asked p.get_channel_cipher_suites.filled.Reads.Learnt (λ κs z. now z)
-filled-unique κs a ok z z′ w w′ q q′ = (both q q′, refl)
+pub filled-unique : UniquePart p.get_channel_cipher_suites.filled.Kinds.ps p.get_channel_cipher_suites.filled.Kinds.r p.get_channel_cipher_suites.filled.Reads.Asked p.get_channel_cipher_suites.filled.Reads.Learnt (λ κs z. z)
+filled-unique κs a ok z z′ w w′ q q′ = ((both (q .lies) (q′ .lies), both (q .shows) (q′ .shows)), refl)
 
 pub step-at-unique : Unique p.get_channel_cipher_suites.step_at.Kinds.ps p.get_channel_cipher_suites.step_at.Kinds.r p.get_channel_cipher_suites.step_at.Reads.Asked p.get_channel_cipher_suites.step_at.Reads.Learnt
 step-at-unique κs a ok z z′ w w′ q q′ = (both q q′, refl)
 
 pub suite-numbers-unique : Unique p.get_channel_cipher_suites.suite_numbers.Kinds.ps p.get_channel_cipher_suites.suite_numbers.Kinds.r p.get_channel_cipher_suites.suite_numbers.Reads.Asked p.get_channel_cipher_suites.suite_numbers.Reads.Learnt
-suite-numbers-unique κs a ok z z′ w w′ q q′ = writer q q′
+suite-numbers-unique κs a ok z z′ w w′ q q′ = writer 1 q q′
 
 pub collected-suites-in-unique : Unique p.collected.collected_suites_in.Kinds.ps p.collected.collected_suites_in.Kinds.r p.collected.collected_suites_in.Reads.Asked p.collected.collected_suites_in.Reads.Learnt
-collected-suites-in-unique κs a ok z z′ w w′ q q′ = writer3 q q′
+collected-suites-in-unique κs a ok z z′ w w′ q q′ = writer 2 q q′
 
 pub collected-suites-unique : Unique p.collected.collected_suites.Kinds.ps p.collected.collected_suites.Kinds.r p.collected.collected_suites.Reads.Asked p.collected.collected_suites.Reads.Learnt
-collected-suites-unique κs a ok z z′ w w′ q q′ = writer q q′
+collected-suites-unique κs a ok z z′ w w′ q q′ = writer 1 q q′
 
 -- the reader that holds the list is proved by walks
 pub iter-parse-full-data-unique : UniqueWalk p.get_channel_cipher_suites.Iter.parse_full_data.ended (λ M 𝓤 H A mem run. p.get_channel_cipher_suites.Iter.parse_full_data.clauses 𝓤 H A mem run)

@@ -11,10 +11,11 @@ use Rattle.auth.specs.declared.algorithms.IntegrityAlgorithm.{IntegrityAlgorith
 use denote.Ref.{now}
 use Rattle.base.specs.Choice.{if_then_else_, _<?_, _=?_}
 use Rattle.base.specs.Connection.{channelOf, channelField}
-use Rattle.base.specs.Field.{byte, within}
+use Rattle.base.specs.Field.{Array, byte, within}
 use Rattle.base.specs.Named.{named}
-use Rattle.base.specs.Outcome.{Outcome, accepted, refused, _>>=_, faultsAs}
+use Rattle.base.specs.Outcome.{Outcome, accepted, refused, _>>=_}
 use Rattle.base.specs.Refusal.{refusal}
+use Rattle.base.specs.Request.{request}
 use Rattle.base.specs.Written.{padded}
 use Rattle.base.specs.declared.connection.Channel.{Channel}
 use Rattle.collector.specs.Collector.{lastIndex, partLength}
@@ -59,19 +60,22 @@ commandBytes c = do
   index ← within 0 lastIndex (c .«list_index»)
   accepted (channel ∷ 0 ∷ index ∷ [])
 
--- "a request reader turns every fault into 10"
+-- the same, read: "a request reader turns every fault into 10"
 abbrev pub commandOf : List ℕ → Outcome GetChannelCipherSuites
-commandOf request =
-    if length request =? 3 then faultsAs 10 (do
-      channel ← channelOf (byte 0 request)
-      if byte 1 request =? 0 then commandOn channel (byte 2 request) else refused 10 [])
-    else refused 10 []
+commandOf bytes = request 3 bytes (do
+  channel ← channelOf (byte 0 bytes)
+  payload ← within 0 0 (byte 1 bytes)
+  commandOn channel (byte 2 bytes))
 
 -- The response: a part of the list, as the Rust reads it.
 
 -- the bytes, their number, and zeros up to sixteen
 abbrev pub part : List ℕ → ChannelCipherSuites
 part bytes = record { «data_length» = length bytes; «record_data» = padded partLength bytes }
+
+-- what every part of the machine has
+abbrev pub Typed : ChannelCipherSuites → Type 0
+Typed s = Array partLength (s .«record_data»)
 
 -- stands beside a refusal
 abbrev pub noSuites : ChannelCipherSuites
@@ -143,7 +147,7 @@ suite n = record { 0 = n }
 
 -- a number that a row stands at
 abbrev pub suiteOf : ℕ → Option CipherSuite
-suiteOf n = if n <? 20 then some (suite n) else none
+suiteOf n = if n <? length suites then some (suite n) else none
 
 -- the three numbers are equal
 abbrev pub same : Row → Row → Bool

@@ -1,8 +1,9 @@
 // Get Channel Cipher Suites, App 54h: IPMI 2.0, Table 22-17; the Rust's get_channel_cipher_suites.rs.
 ghost use mathlib.Core.Path.{_≡_};
-ghost use Rattle.suites.specs.GetChannelCipherSuites.{authenticationOf, commandBytes, commandFor, commandOf, commandOn, confidentialityOf, integrityOf, isSuite, moved, noSuites, nothing, numbersOf, partOf, rowOf, saidCommand, saidRow, saidSuite, same, stepAt, stepNumber, stepOf, suiteFor, suiteOf, suitesBytes, zeros};
+ghost use Rattle.suites.specs.GetChannelCipherSuites.{Typed, authenticationOf, commandBytes, commandFor, commandOf, commandOn, confidentialityOf, integrityOf, isSuite, moved, noSuites, nothing, numbersOf, rowOf, saidCommand, saidRow, saidSuite, same, stepAt, stepNumber, stepOf, suiteFor, suiteOf, suitesBytes, zeros, partOf};
 ghost use Rattle.auth.specs.Algorithms.{saidAuthentication, saidConfidentiality, saidIntegrity};
 ghost use Rattle.base.specs.Outcome.{accepted};
+ghost use Rattle.base.specs.Part.{Part};
 ghost use Rattle.base.specs.Verdict.{Gives};
 ghost use Rattle.base.specs.Written.{Writes};
 ghost use lib.ListN.{drop, length, take};
@@ -34,6 +35,8 @@ pub enum CommandAnswer {
 }
 
 impl GetChannelCipherSuites {
+    pub const COMMAND: u8 = 0x54;
+
     pub fn new(channel: Channel, list_index: u8) -> CommandAnswer
         ensures { λ r. ⌜ saidCommand r ≡ commandOn channel «list_index» ⌝ }
     {
@@ -122,7 +125,7 @@ fn zero_from(bytes: &[u8], at: usize) -> bool
 
 // The filled part of the lent bytes: as many as the length says, all if fewer. The Rust's Deref.
 pub fn filled(bytes: &[u8], data_length: usize) -> &[u8]
-    ensures { λ r. ⌜ now r ≡ take «data_length» (now (bytes .entry)) ⌝ }
+    ensures { λ r. ⌜ Part (bytes .entry) r (take «data_length» (now (bytes .entry))) ⌝ }
 {
     if bytes.len() < data_length {
         return bytes;
@@ -131,6 +134,11 @@ pub fn filled(bytes: &[u8], data_length: usize) -> &[u8]
 }
 
 impl ChannelCipherSuites {
+    // What the laws ask of a part.
+    fn typed(self)
+        ensures { λ _. ⌜ Typed self ⌝ }
+    {}
+
     pub fn parse(response: &[u8]) -> SuitesAnswer
         ensures { λ r. ⌜ Gives (partOf (now (response .entry))) noSuites (r .verdict) (r .suites) ⌝ }
     {
@@ -281,6 +289,9 @@ const SUITES: [Row; 20] = [
     },
 ];
 
+// How many there are.
+const COUNT: u8 = SUITES.len() as u8;
+
 // A suite, by its number.
 pub struct CipherSuite(pub u8);
 
@@ -316,7 +327,7 @@ impl CipherSuite {
     pub fn from_id(value: u8) -> SuiteAnswer
         ensures { λ r. ⌜ saidSuite r ≡ accepted (suiteOf value) ⌝ }
     {
-        if value < 20 {
+        if value < COUNT {
             return SuiteAnswer::Suite(CipherSuite(value));
         }
         SuiteAnswer::Nothing
@@ -326,7 +337,7 @@ impl CipherSuite {
         ensures { λ r. ⌜ saidSuite r ≡ accepted (suiteFor suite) ⌝ }
     {
         let mut i: usize = 0;
-        while i < 20 {
+        while i < SUITES.len() {
             if equal(SUITES[i], suite) {
                 return SuiteAnswer::Suite(CipherSuite(i as u8));
             }
@@ -339,7 +350,7 @@ impl CipherSuite {
         ensures { λ r. ⌜ saidRow r ≡ accepted (rowOf (self .0)) ⌝ }
     {
         let number = self.0;
-        if number < 20 {
+        if number < COUNT {
             return RowAnswer::Row(SUITES[number as usize]);
         }
         RowAnswer::Nothing

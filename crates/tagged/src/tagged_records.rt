@@ -7,7 +7,7 @@ ghost use Rattle.tagged.specs.Format.{allFit, confidentialityTag, integr
 ghost use Rattle.tagged.specs.TaggedRecords.{bodyAt, countOf, entriesOf, entry, entryLength, listingOf, numbersIn, reach, recordAt, retagged, saidCount, saidRecord, saidStep, startLength, strictNumbersOf, strictStepAt, suiteFrom, suiteWritten};
 ghost use Rattle.base.specs.Outcome.{accepted};
 ghost use Rattle.base.specs.Written.{Writes};
-use base::little::bytes4;
+use base::little::bytes3;
 use base::little::number3;
 use base::refusal::Refusal;
 use base::written::Written;
@@ -180,7 +180,7 @@ pub fn entry(suite: TaggedRecord) -> [u8; ENTRY]
     match owner {
         Owner::Standard => [number, 0, 0, 0, 0],
         Owner::Vendor(vendor) => {
-            let v = bytes4(vendor);
+            let v = bytes3(vendor);
             [number, 1, v[0], v[1], v[2]]
         }
     }
@@ -289,7 +289,7 @@ fn head_of(owner: Owner, number: u8, authentication: u8) -> Head
             length: STANDARD_START + 1,
         },
         Owner::Vendor(vendor) => {
-            let v = bytes4(vendor);
+            let v = bytes3(vendor);
             Head {
                 bytes: [OWN, number, v[0], v[1], v[2], authentication],
                 length: OWN_START + 1,

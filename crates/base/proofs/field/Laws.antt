@@ -43,7 +43,7 @@ is-set false = refl
 pub is-flag : (at n : ℕ) (b : Bool) → bits at 1 n ≡ boolByte b → flag at n ≡ b
 is-flag at n b e = rw e (is-set b)
 
--- A byte of flags: what the machine puts together, and each flag read again.
+-- A byte of flags: what the machine puts together, and each flag read again. It is a byte.
 module _ (b7 b6 b5 b4 b3 b2 b1 b0 : Bool) where
   pub flags-packed : bitOr (bitOr (bitOr (bitOr (bitOr (bitOr (bitOr (boolByte b0) (boolByte b1 * 2 % 256)) (boolByte b2 * 4 % 256)) (boolByte b3 * 8 % 256)) (boolByte b4 * 16 % 256)) (boolByte b5 * 32 % 256)) (boolByte b6 * 64 % 256)) (boolByte b7 * 128 % 256)
       ≡ flags b7 b6 b5 b4 b3 b2 b1 b0
@@ -72,6 +72,7 @@ module _ (b7 b6 b5 b4 b3 b2 b1 b0 : Bool) where
       × (flag 2 (flags b7 b6 b5 b4 b3 b2 b1 b0) ≡ b2)
       × (flag 1 (flags b7 b6 b5 b4 b3 b2 b1 b0) ≡ b1)
       × (flag 0 (flags b7 b6 b5 b4 b3 b2 b1 b0) ≡ b0)
+      × (flags b7 b6 b5 b4 b3 b2 b1 b0 < 256)
   flags-read =
       let f = flags b7 b6 b5 b4 b3 b2 b1 b0 in
       let s0 = bit-small b0 in
@@ -82,7 +83,7 @@ module _ (b7 b6 b5 b4 b3 b2 b1 b0 : Bool) where
       let s5 = bit-small b5 in
       let s6 = bit-small b6 in
       let s7 = bit-small b7 in
-      (is-flag 7 f b7 (omega arith), is-flag 6 f b6 (omega arith), is-flag 5 f b5 (omega arith), is-flag 4 f b4 (omega arith), is-flag 3 f b3 (omega arith), is-flag 2 f b2 (omega arith), is-flag 1 f b1 (omega arith), is-flag 0 f b0 (omega arith))
+      (is-flag 7 f b7 (omega arith), is-flag 6 f b6 (omega arith), is-flag 5 f b5 (omega arith), is-flag 4 f b4 (omega arith), is-flag 3 f b3 (omega arith), is-flag 2 f b2 (omega arith), is-flag 1 f b1 (omega arith), is-flag 0 f b0 (omega arith), omega arith)
 
 -- f at each number below k, for a claim on all of them by one computed test, as that each number of a field, once read, is written again
 abbrev pub upTo : {A : Type 0} → ℕ → (ℕ → A) → List A

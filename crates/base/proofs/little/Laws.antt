@@ -5,7 +5,9 @@ use Prim.Native.Nat.{ℕ, zero, suc, _+_, _*_, _/_, _%_, _^_, _<_}
 use native.Mathlib.Nat.{pow-suc, div-lt-iff-lt-mul}
 use native.Mathlib.Omega.{arith}
 use lib.Dec.{lit<}
-use lib.ListN.{length, take, drop, getD, replicate}
+use lib.ListN.{length, getD, take, drop, replicate}
+use mir.Syntax.{w8}
+use mir.Val.{Fits}
 use lib.Seq.{paste}
 use Rattle.base.specs.Field.{Bytes}
 use Rattle.base.specs.Little.{little, littleBytes}
@@ -38,6 +40,10 @@ a-byte (byte ∷ bytes) h (suc k) = a-byte bytes (h .1) k
 pub all-bytes : (bytes : List ℕ) → ((k : ℕ) → getD bytes k 0 < 256) → Bytes bytes
 all-bytes [] h = tt
 all-bytes (byte ∷ bytes) h = (h 0, all-bytes bytes (λ k. h (suc k)))
+
+-- so are the machine's elements of eight bits
+pub are-bytes : (bytes : List ℕ) → ((k : ℕ) → Fits w8 (getD bytes k 0)) → Bytes bytes
+are-bytes bytes h = all-bytes bytes (λ k. h k .fits)
 
 -- a part of bytes is bytes
 pub bytes-take : (n : ℕ) (bytes : List ℕ) → Bytes bytes → Bytes (take n bytes)

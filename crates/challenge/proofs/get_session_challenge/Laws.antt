@@ -3,8 +3,8 @@ use mathlib.Core.Logic.{_↔_}
 use mathlib.Core.Path.{_≡_, refl, sym, ap}
 use mathlib.Core.Bool.{Bool, true, false}
 use mathlib.Core.List.{List, [], _∷_, _++_, append-nil}
-use mathlib.Core.Option.{Option, none, some}
-use Prim.Native.Nat.{ℕ, suc, _+_, _^_, _≤_, _<_}
+use mathlib.Core.Option.{some}
+use Prim.Native.Nat.{ℕ, suc, _+_, _≤_, _<_}
 use native.Mathlib.Numerals.{add-one}
 use native.Mathlib.Omega.{arith}
 use borrow.Author.Tests.{eq-eqb, ne-eqb, eqb-true, ltb-false, le-ltb}
@@ -12,21 +12,24 @@ use lib.Dec.{eqb, ltb}
 use lib.ListN.{length, getD, take, drop, replicate, length-append, length-drop, length-take, length-replicate, drop-of-length-le}
 use lib.Seq.{take-all, drop-cons}
 use Rattle.base.specs.Choice.{if_then_else_}
-use Rattle.base.specs.Field.{byte}
+use Rattle.base.specs.Field.{Bytes, byte}
 use Rattle.base.specs.Little.{little, littleBytes}
-use Rattle.base.specs.Named.{named}
-use Rattle.base.specs.Outcome.{accepted, refused}
+use Rattle.base.specs.Named.{named, required}
+use Rattle.base.specs.Outcome.{accepted, refused, _>>=_}
 use Rattle.base.specs.Written.{Writes, padded}
 use Rattle.base.specs.declared.written.Written.{Written}
-use Rattle.base.proofs.Outcome.{apart, no-form}
-use Rattle.base.proofs.little.Laws.{number-back}
+use Rattle.base.proofs.Named.{required-some}
+use Rattle.base.proofs.Outcome.{otherwise, when, steps}
+use Rattle.base.proofs.Rows.{NoForm, nine, Strict, strict}
+use Rattle.base.proofs.little.Laws.{a-byte, are-bytes, bytes-are, bytes-drop, number-back}
 use Rattle.base.proofs.written.Laws.{padding}
 use Rattle.auth.specs.Auth.{authTypeValue, authTypes}
-use Rattle.challenge.specs.GetSessionChallenge.{challenge, challengeBytes, challengeOf, command, commandBytes, commandFor, commandOf, shown}
+use Rattle.auth.specs.Session.{nonZero}
+use Rattle.challenge.specs.GetSessionChallenge.{Typed, TypedCommand, challenge, challengeBytes, challengeOf, command, commandBytes, commandFor, commandOf, shown}
 use Rattle.auth.specs.declared.AuthType.{AuthType}
 use Rattle.challenge.specs.declared.get_session_challenge.GetSessionChallenge.{GetSessionChallenge}
 use Rattle.challenge.specs.declared.get_session_challenge.SessionChallenge.{SessionChallenge}
-use Rattle.auth.proofs.Laws.{auth-number-iff}
+use Rattle.auth.proofs.Laws.{auth-again, auth-number-iff}
 use Rattle.auth.proofs.Session.{sixteen, non-zero-only}
 
 -- a name that was written over sixteen zeros
@@ -77,61 +80,49 @@ shown-short (b ∷ s) = go (eqb b 0) (shown-short s)
     go true h = omega arith
     go false h = omega arith
 
--- The command. The machine's names have sixteen bytes.
+-- The command.
 
-pub command-iff : (s : List ℕ) (k : GetSessionChallenge) → length (k .username) ≡ 16 → commandOf s ≡ accepted k ↔ commandBytes k ≡ s
-command-iff s k l = (go (eqb (length s) 17) (named authTypes (byte 0 s)) refl refl, back)
-  where
-    go : (b : Bool) (x : Option AuthType) → eqb (length s) 17 ≡ b → named authTypes (byte 0 s) ≡ x → commandOf s ≡ accepted k → commandBytes k ≡ s
-    go false x p q e = absurd (apart (rw p at e))
-    go true none p q e = absurd (apart (rw (p, q) at e))
-    go true (some kind) p q e =
-        let f = rw (p, q) at e in
-        let z : command kind (drop 1 s) ≡ k = cc in
-        rw (← z, auth-number-iff (byte 0 s) kind .0 q) (sym (drop-cons s 0 0 (let h = eqb-true (length s) 17 p in omega arith)))
-
-    back : commandBytes k ≡ s → commandOf s ≡ accepted k
-    back e = rw (← e, eq-eqb (length (commandBytes k)) 17 (rw l), auth-number-iff (authTypeValue (k .«auth_type»)) (k .«auth_type») .1 refl)
+-- Row 10: the command that is read holds sixteen bytes.
+pub command-strict : Strict commandOf (λ k s. TypedCommand k × (commandBytes k ≡ s))
+command-strict =
+    strict 17 (λ s. required 10 [] (named authTypes (byte 0 s)) >>= λ kind. accepted (command kind (drop 1 s))) _
+    (λ s k b l e. let (kind, ek, f) = steps (required 10 [] (named authTypes (byte 0 s))) _ e in
+    let z : command kind (drop 1 s) ≡ k = cc in
+    rw (← z, auth-number-iff (byte 0 s) kind .0 (required-some 10 [] (named authTypes (byte 0 s)) ek))
+    ((rw length-drop (omega arith), λ j. record { fits = a-byte (drop 1 s) (bytes-drop 1 s b) j }), sym (drop-cons s 0 0 (omega arith))))
+    λ s k (h, e). let kind = k .«auth_type» in
+    rw (← e) ((auth-again kind .0, are-bytes (k .username) (h .1)), rw (h .0), rw (auth-number-iff (authTypeValue kind) kind .1 refl))
 
 -- every command of the machine is made for some name, its own sixteen bytes
-pub command-made : (k : GetSessionChallenge) → length (k .username) ≡ 16 → commandFor (k .«auth_type») (k .username) ≡ accepted k
-command-made k l = rw (l, append-nil)
+pub command-made : (k : GetSessionChallenge) → TypedCommand k → commandFor (k .«auth_type») (k .username) ≡ accepted k
+command-made k h = rw (h .0, append-nil)
 
 -- and a command that is made has a name of sixteen
 pub made-sixteen : (kind : AuthType) (name : List ℕ) (k : GetSessionChallenge) → commandFor kind name ≡ accepted k → length (k .username) ≡ 16
-made-sixteen kind name k e = go (ltb 16 (length name)) refl
-  where
-    go : (b : Bool) → ltb 16 (length name) ≡ b → length (k .username) ≡ 16
-    go true p = absurd (apart (rw p at e))
-    go false p =
-        let f = rw p at e in
-        let z : command kind (padded 16 name) ≡ k = cc in
-        let h = ltb-false 16 (length name) p in
-        rw (← z, length-append, length-replicate) (omega arith)
+made-sixteen kind name k e =
+    let (p, f) = otherwise 8 (ltb 16 (length name)) e in
+    let z : command kind (padded 16 name) ≡ k = cc in
+    let h = ltb-false 16 (length name) p in
+    rw (← z, length-append, length-replicate) (omega arith)
 
--- The response: the reader gives back what the writer wrote.
-pub challenge-back : (c : SessionChallenge) (s : List ℕ) → length (c .«challenge_string») ≡ 16 → c .«temporary_session_id» < 2 ^ 32 → challengeBytes c ≡ accepted s → challengeOf s ≡ accepted c
-challenge-back c s l small e = go (eqb (c .«temporary_session_id») 0) refl
-  where
-    go : (b : Bool) → eqb (c .«temporary_session_id») 0 ≡ b → challengeOf s ≡ accepted c
-    go true p = absurd (apart (rw p at e))
-    go false p =
-        let f = rw p at e in
-        let z : _≡_ {A = List ℕ} (littleBytes 4 (c .«temporary_session_id») ++ c .«challenge_string») s = cc in
-        let n = number-back 4 (c .«temporary_session_id») small in
-        rw (← z, l, n, p)
+-- The response: the reader gives back what the writer wrote, a string of bytes.
+pub challenge-back : (c : SessionChallenge) (s : List ℕ) → Typed c → challengeBytes c ≡ accepted s → Bytes s × (challengeOf s ≡ accepted c)
+challenge-back c s h e =
+    let id = c .«temporary_session_id» in
+    let (n, en, f) = steps (nonZero 9 (c .«temporary_session_id»)) _ e in
+    let (p, same) = otherwise 9 (eqb (c .«temporary_session_id») 0) en in
+    let z : _≡_ {A = List ℕ} (littleBytes 4 (c .«temporary_session_id») ++ c .«challenge_string») s = cc in
+    rw (← z) (bytes-are 4 id (c .«challenge_string») (are-bytes (c .«challenge_string») (h .string .1)), rw (h .string .0, number-back 4 id (h .id), p))
 
--- The writer writes every record that some response, a string of bytes, gives.
+-- The writer writes every record that some response gives.
 pub challenge-given : (s : List ℕ) (c : SessionChallenge) → challengeOf s ≡ accepted c → (t : List ℕ) × (challengeBytes c ≡ accepted t)
-challenge-given s c e = go (eqb (length s) 20) (eqb (little (byte 0 s ∷ byte 1 s ∷ byte 2 s ∷ byte 3 s ∷ [])) 0) refl refl
-  where
-    go : (b x : Bool) → eqb (length s) 20 ≡ b → eqb (little (byte 0 s ∷ byte 1 s ∷ byte 2 s ∷ byte 3 s ∷ [])) 0 ≡ x → (t : List ℕ) × (challengeBytes c ≡ accepted t)
-    go false x p q = absurd (apart (rw p at e))
-    go true true p q = absurd (apart (rw (p, q) at e))
-    go true false p q = let f = rw (p, q) at e in let z : challenge (little (byte 0 s ∷ byte 1 s ∷ byte 2 s ∷ byte 3 s ∷ [])) (drop 4 s) ≡ c = cc in rw (← z, q) (_, refl)
+challenge-given s c e =
+    let (_, f) = when 1 (eqb (length s) 20) e in
+    let (n, en, g) = steps (nonZero 3 (little (byte 0 s ∷ byte 1 s ∷ byte 2 s ∷ byte 3 s ∷ []))) _ f in
+    let (p, same) = otherwise 3 (eqb (little (byte 0 s ∷ byte 1 s ∷ byte 2 s ∷ byte 3 s ∷ [])) 0) en in
+    let z : challenge (little (byte 0 s ∷ byte 1 s ∷ byte 2 s ∷ byte 3 s ∷ [])) (drop 4 s) ≡ c = cc in
+    rw (← z, p) (_, refl)
 
--- Refusal 9: "a writer is given a record that no response reader gives", exactly then.
-pub challenge-no-form : (c : SessionChallenge) → length (c .«challenge_string») ≡ 16 → c .«temporary_session_id» < 2 ^ 32
-    → challengeBytes c ≡ refused 9 [] ↔ ((s : List ℕ) → challengeOf s ≡ accepted c → ⊥)
-challenge-no-form c l small =
-    no-form (challengeBytes c) (λ s. challengeOf s ≡ accepted c) (non-zero-only (c .«temporary_session_id») _) (λ s e. challenge-back c s l small e) (λ s g. challenge-given s c g)
+-- Row 9 of the response.
+pub challenge-no-form : (c : SessionChallenge) → Typed c → NoForm challengeOf challengeBytes c
+challenge-no-form c h = nine challengeOf challengeBytes c (non-zero-only (c .«temporary_session_id») _) (λ s e. challenge-back c s h e) (λ s b g. challenge-given s c g)

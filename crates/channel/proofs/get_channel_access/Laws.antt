@@ -12,9 +12,9 @@ use lib.ListN.{List·getD-eq-default, length}
 use mir.Val.{boolByte}
 use Rattle.base.specs.Choice.{if_then_else_}
 use Rattle.base.specs.Connection.{channelOf, channelField}
-use Rattle.base.specs.Field.{byte, bits, raised}
-use Rattle.channel.specs.GetChannelAccess.{accessFields, accessOf, accessBytes, command, commandOf, commandBytes, limits, limitOf, limitField, limitValue, modes, modeOf, modeField, modeValue, typeOf, typeByte}
-use Rattle.base.specs.Outcome.{Outcome, accepted, refused, _>>=_, faultsAs}
+use Rattle.base.specs.Field.{Bytes, byte, bits, raised}
+use Rattle.channel.specs.GetChannelAccess.{accessFields, accessOf, accessBytes, command, commandOf, commandBytes, limits, limitOf, limitField, modes, modeOf, modeField, typeOf, typeByte, limitValue, modeValue}
+use Rattle.base.specs.Outcome.{accepted, refused, _>>=_, Outcome, faultsAs}
 use Rattle.base.specs.declared.connection.Channel.{Channel}
 use Rattle.channel.specs.declared.get_channel_access.ChannelAccess.{ChannelAccess}
 use Rattle.channel.specs.declared.get_channel_access.ChannelAccessMode.{ChannelAccessMode}
@@ -24,8 +24,9 @@ use Rattle.channel.specs.declared.get_channel_access.ChannelAccessType.t
 use Rattle.channel.specs.declared.get_channel_access.ChannelPrivilegeLevel.{ChannelPrivilegeLevel}
 use Rattle.channel.specs.declared.get_channel_access.ChannelPrivilegeLevel.the-variants as Level
 use Rattle.channel.specs.declared.get_channel_access.GetChannelAccess.{GetChannelAccess}
-use Rattle.base.proofs.Outcome.{apart, Only, only-steps, no-form, ranged, only-ranged}
-use Rattle.base.proofs.connection.Laws.{channel-iff, no-channel-form}
+use Rattle.base.proofs.Outcome.{apart, otherwise, steps, Only, only-steps, ranged, only-ranged}
+use Rattle.base.proofs.Rows.{NoForm, nine, Strict, strict}
+use Rattle.base.proofs.connection.Laws.{channel-iff, channel-small, no-channel-form}
 use Rattle.base.proofs.field.Laws.{below, bit-small, is-set, same, set-bit, so-long}
 
 -- Modes and limits: a number that is read is written again, and what is written is read again.
@@ -118,26 +119,34 @@ reads a m l e f =
 
 -- The reader gives back what the writer wrote.
 pub access-back : (a : ChannelAccess) (s : List ℕ) → accessBytes a ≡ accepted s → accessOf s ≡ accepted a
-access-back a s e = go (modeField (a .«access_mode»)) (limitField (a .«privilege_level_limit»)) refl refl e
-  where
-    go : (x y : Outcome ℕ) → modeField (a .«access_mode») ≡ x → limitField (a .«privilege_level_limit») ≡ y
-        → (x >>= λ m. y >>= λ l. accepted (first m (a .«user_level_auth_disabled») (a .«per_msg_auth_disabled») (a .«alerting_disabled») ∷ l ∷ [])) ≡ accepted s
-        → accessOf s ≡ accepted a
-    go (refused n v) y p q e = absurd (apart e)
-    go (accepted m) (refused n v) p q e = absurd (apart e)
-    go (accepted m) (accepted l) p q e =
-        let z : _≡_ {A = List ℕ} (first m (a .«user_level_auth_disabled») (a .«per_msg_auth_disabled») (a .«alerting_disabled») ∷ l ∷ []) s = cc in
-        rw (← z) (reads a m l p q)
+access-back a s e =
+    let (m, em, f) = steps (modeField (a .«access_mode»)) _ e in
+    let (l, el, g) = steps (limitField (a .«privilege_level_limit»)) _ f in
+    let z : _≡_ {A = List ℕ} (first m (a .«user_level_auth_disabled») (a .«per_msg_auth_disabled») (a .«alerting_disabled») ∷ l ∷ []) s = cc in
+    rw (← z) (reads a m l em el)
+
+-- That is two bytes: bits 7:6 of the first and 7:4 of the second are clear.
+pub access-two : (a : ChannelAccess) {s : List ℕ} → accessBytes a ≡ accepted s → (length s ≡ 2) × (byte 0 s < 64) × (byte 1 s < 16)
+access-two a {s} e =
+    let (m, em, f) = steps (modeField (a .«access_mode»)) _ e in
+    let (l, el, g) = steps (limitField (a .«privilege_level_limit»)) _ f in
+    let z : _≡_ {A = List ℕ} (first m (a .«user_level_auth_disabled») (a .«per_msg_auth_disabled») (a .«alerting_disabled») ∷ l ∷ []) s = cc in
+    let (small, _) = mode-back (a .«access_mode») m em in
+    let (low, _) = limit-back (a .«privilege_level_limit») l el in
+    let u = bit-small (a .«user_level_auth_disabled») in
+    let p = bit-small (a .«per_msg_auth_disabled») in
+    let d = bit-small (a .«alerting_disabled») in
+    rw (← z) (refl, omega arith, low)
+
+pub access-bytes : (a : ChannelAccess) (s : List ℕ) → accessBytes a ≡ accepted s → Bytes s
+access-bytes a s e = let (l, f, g) = access-two a e in rw (← so-long s 2 l) (omega arith, (omega arith, tt))
 
 -- The writer writes every record that some response gives.
 pub access-given : (s : List ℕ) (a : ChannelAccess) → accessOf s ≡ accepted a → (t : List ℕ) × (accessBytes a ≡ accepted t)
-access-given s a e = go (ltb (length s) 2) e
-  where
-    go : (x : Bool) → (if x then refused 1 [] else accepted (accessFields (byte 0 s) (byte 1 s))) ≡ accepted a → (t : List ℕ) × (accessBytes a ≡ accepted t)
-    go true e = absurd (apart e)
-    go false e =
-        let z : accessFields (byte 0 s) (byte 1 s) ≡ a = cc in
-        rw (← z) (simp (mode-given (bits 0 3 (byte 0 s)) (omega arith), limit-given (bits 0 4 (byte 1 s)) (omega arith)) (_, refl))
+access-given s a e =
+    let (_, f) = otherwise 1 (ltb (length s) 2) e in
+    let z : accessFields (byte 0 s) (byte 1 s) ≡ a = cc in
+    rw (← z) (simp (mode-given (bits 0 3 (byte 0 s)) (omega arith), limit-given (bits 0 4 (byte 1 s)) (omega arith)) (_, refl))
 
 pub access-only : (a : ChannelAccess) → Only 9 (accessBytes a)
 access-only a = only-steps 9 (modeField (a .«access_mode»)) _ (mode-only (a .«access_mode»)) λ m. only-steps 9 (limitField (a .«privilege_level_limit»)) _ (limit-only (a .«privilege_level_limit»)) λ l. refl
@@ -158,9 +167,9 @@ access-only a = only-steps 9 (modeField (a .«access_mode»)) _ (mode-only (a .�
     limit-only Level.Oem = refl
     limit-only (Level.Unknown n) = only-ranged n 6 15 n 9
 
--- Refusal 9: "a writer is given a record that no response reader gives", exactly then.
-pub access-no-form : (a : ChannelAccess) → accessBytes a ≡ refused 9 [] ↔ ((s : List ℕ) → accessOf s ≡ accepted a → ⊥)
-access-no-form a = no-form (accessBytes a) (λ s. accessOf s ≡ accepted a) (access-only a) (λ s e. access-back a s e) (λ s g. access-given s a g)
+-- Row 9 of the response.
+pub access-no-form : (a : ChannelAccess) → NoForm accessOf accessBytes a
+access-no-form a = nine accessOf accessBytes a (access-only a) (λ s e. (access-bytes a s e, access-back a s e)) (λ s b g. access-given s a g)
 
 -- The command.
 
@@ -176,26 +185,22 @@ type-iff n t = (go (eqb n 0x40) (eqb n 0x80) refl refl, back t)
     back NonVolatile e = rw (← e)
     back Volatile e = rw (← e)
 
--- "Request readers accept exactly the byte strings that some command of its kind writes", and give that command.
-pub command-iff : (s : List ℕ) (k : GetChannelAccess) → commandOf s ≡ accepted k ↔ commandBytes k ≡ accepted s
-command-iff s k = (go (eqb (length s) 2) (channelOf (byte 0 s)) (typeOf (byte 1 s)) refl refl refl, back (channelField (k .channel)) refl)
-  where
-    go : (b : Bool) (x : Outcome Channel) (y : Outcome ChannelAccessType) → eqb (length s) 2 ≡ b → channelOf (byte 0 s) ≡ x → typeOf (byte 1 s) ≡ y
-        → (if b then faultsAs 10 (x >>= λ c. y >>= λ t. accepted (command c t)) else refused 10 []) ≡ accepted k → commandBytes k ≡ accepted s
-    go false x y p q r e = absurd (apart e)
-    go true (refused n v) y p q r e = absurd (apart e)
-    go true (accepted c) (refused n v) p q r e = absurd (apart e)
-    go true (accepted c) (accepted t) p q r e =
-        let z : command c t ≡ k = cc in
-        let b0 = channel-iff (byte 0 s) c .0 q in
-        let b1 = type-iff (byte 1 s) t .0 r in
-        rw (← z, b0, b1, so-long s 2 (eqb-true (length s) 2 p))
+type-small : (t : ChannelAccessType) → typeByte t < 256
+type-small = elim [ NonVolatile ↦ lit< tt | Volatile ↦ lit< tt ]
 
-    back : (x : Outcome ℕ) → channelField (k .channel) ≡ x → (x >>= λ n. accepted (n ∷ typeByte (k .«access_type») ∷ [])) ≡ accepted s → commandOf s ≡ accepted k
-    back (refused n v) p e = absurd (apart e)
-    back (accepted n) p e =
-        let z : _≡_ {A = List ℕ} (n ∷ typeByte (k .«access_type») ∷ []) s = cc in
-        rw (← z, channel-iff n (k .channel) .1 p, type-iff (typeByte (k .«access_type»)) (k .«access_type») .1 refl)
+-- Row 10.
+pub command-strict : Strict commandOf (λ k s. commandBytes k ≡ accepted s)
+command-strict =
+    strict 2 (λ s. channelOf (byte 0 s) >>= λ c. typeOf (byte 1 s) >>= λ t. accepted (command c t)) _
+    (λ s k b l e. let (c, ec, f) = steps (channelOf (byte 0 s)) _ e in
+    let (t, et, g) = steps (typeOf (byte 1 s)) _ f in
+    let z : command c t ≡ k = cc in
+    rw (← z, channel-iff (byte 0 s) c .0 ec, type-iff (byte 1 s) t .0 et, so-long s 2 l))
+    λ s k e. let (n, en, f) = steps (channelField (k .channel)) _ e in
+    let t = k .«access_type» in
+    let z : _≡_ {A = List ℕ} (n ∷ typeByte (k .«access_type») ∷ []) s = cc in
+    let small = channel-small (k .channel) n en in
+    rw (← z) ((omega arith, (type-small t, tt)), refl, rw (channel-iff n (k .channel) .1 en, type-iff (typeByte t) t .1 refl))
 
 -- Refusal 9: ".. or a command whose channel no number makes", exactly then.
 pub command-no-form : (k : GetChannelAccess) → commandBytes k ≡ refused 9 [] ↔ ((n : ℕ) → channelOf n ≡ accepted (k .channel) → ⊥)

@@ -1,26 +1,25 @@
 -- Laws of Get Channel Info.
 use mathlib.Core.Logic.{_↔_}
 use mathlib.Core.Path.{_≡_, refl}
-use mathlib.Core.Bool.{Bool, true, false}
 use mathlib.Core.List.{List, [], _∷_, _++_}
 use Prim.Native.Nat.{ℕ, _+_, _*_, _≤_}
 use native.Mathlib.Omega.{arith}
-use borrow.Author.Tests.{eqb-true, le-ltb}
-use lib.Dec.{eqb, ltb}
+use borrow.Author.Tests.{le-ltb}
+use lib.Dec.{ltb}
 use lib.ListN.{length}
-use Rattle.base.specs.Choice.{if_then_else_}
 use Rattle.base.specs.Connection.{channelOf, channelField}
 use Rattle.base.specs.Field.{Bytes, bits, byte, within}
 use Rattle.base.specs.Little.{little, littleBytes}
-use Rattle.base.specs.Outcome.{Outcome, accepted, refused, _>>=_, faultsAs}
+use Rattle.base.specs.Outcome.{accepted, refused, _>>=_}
 use Rattle.base.specs.declared.connection.Channel.{Channel}
-use Rattle.base.proofs.Outcome.{apart, steps, Only, only-steps, no-form, inside, ranged, only-ranged}
+use Rattle.base.proofs.Outcome.{otherwise, unfaulted, steps, Only, only-steps, inside, ranged, only-ranged}
+use Rattle.base.proofs.Rows.{NoForm, nine, Strict, strict}
 use Rattle.base.proofs.connection.Laws.{channel-iff, channel-small, begins-only, no-channel-form}
 use Rattle.base.proofs.field.Laws.{so-long}
 use Rattle.base.proofs.little.Laws.{a-byte, bytes-are, number-back}
 use Rattle.media.specs.Media.{mediumField, protocolField, sessionField}
 use Rattle.media.proofs.get_channel_info.Laws.{medium-back, medium-given, medium-only, protocol-back, protocol-given, protocol-only, session-back, session-given, session-only}
-use Rattle.info.specs.GetChannelInfo.{command, commandBytes, commandOf, infoBytes, infoFields, infoOf}
+use Rattle.info.specs.GetChannelInfo.{Typed, command, commandBytes, commandOf, infoBytes, infoFields, infoOf}
 use Rattle.info.specs.declared.get_channel_info.ChannelInfo.{ChannelInfo}
 use Rattle.info.specs.declared.get_channel_info.GetChannelInfo.{GetChannelInfo}
 
@@ -92,7 +91,7 @@ info-back i s e =
     let zv = number-back 3 (i .«vendor_id») (omega arith) in
     rw (← w .all, zc, channel-iff (w .channel) (i .channel) .1 (w .channel-is), zm, fm, zp, fp, zs, fs, za, zv)
 
-info-bytes : (i : ChannelInfo) (s : List ℕ) → Bytes (i .«aux_info» .byte1 ∷ i .«aux_info» .byte2 ∷ []) → infoBytes i ≡ accepted s → Bytes s
+info-bytes : (i : ChannelInfo) (s : List ℕ) → Typed i → infoBytes i ≡ accepted s → Bytes s
 info-bytes i s b e =
     let w = info-packed i s e in
     let lm = medium-back (i .«medium_type») (w .medium) (w .medium-is) .0 in
@@ -104,19 +103,15 @@ info-bytes i s b e =
 
 -- The writer writes every record that some response, a string of bytes, gives.
 pub info-given : (s : List ℕ) (i : ChannelInfo) → Bytes s → infoOf s ≡ accepted i → (t : List ℕ) × (infoBytes i ≡ accepted t)
-info-given s i b e = go (ltb (length s) 9) (channelOf (bits 0 4 (byte 0 s))) refl refl
-  where
-    go : (x : Bool) (y : Outcome Channel) → ltb (length s) 9 ≡ x → channelOf (bits 0 4 (byte 0 s)) ≡ y → (t : List ℕ) × (infoBytes i ≡ accepted t)
-    go true y p q = absurd (apart (rw p at e))
-    go false (refused n v) p q = absurd (apart (rw (p, q) at e))
-    go false (accepted c) p q =
-        let f = rw (p, q) at e in
-        let z : infoFields s c ≡ i = cc in
-        let r = byte 3 s in
-        let v : little (byte 4 s ∷ byte 5 s ∷ byte 6 s ∷ []) ≤ 0xFFFFFF = omega (arith, a-byte s b 4, a-byte s b 5, a-byte s b 6) in
-        rw
-        (← z, channel-iff (bits 0 4 (byte 0 s)) c .0 q, medium-given (bits 0 7 (byte 1 s)) (omega arith), protocol-given (bits 0 5 (byte 2 s)) (omega arith), session-given (bits 6 2 r) (omega arith), inside (bits 0 6 r) 0 0x3F (bits 0 6 r) 9 (omega arith) (omega arith), inside (little (byte 4 s ∷ byte 5 s ∷ byte 6 s ∷ [])) 0 0xFFFFFF (little (byte 4 s ∷ byte 5 s ∷ byte 6 s ∷ [])) 9 (omega arith) v)
-        (_, refl)
+info-given s i b e =
+    let (_, f) = otherwise 1 (ltb (length s) 9) e in
+    let (c, ec, g) = steps (channelOf (bits 0 4 (byte 0 s))) (λ c. accepted (infoFields s c)) (unfaulted 1 (channelOf (bits 0 4 (byte 0 s)) >>= λ c. accepted (infoFields s c)) f) in
+    let z : infoFields s c ≡ i = cc in
+    let r = byte 3 s in
+    let v : little (byte 4 s ∷ byte 5 s ∷ byte 6 s ∷ []) ≤ 0xFFFFFF = omega (arith, a-byte s b 4, a-byte s b 5, a-byte s b 6) in
+    rw
+    (← z, channel-iff (bits 0 4 (byte 0 s)) c .0 ec, medium-given (bits 0 7 (byte 1 s)) (omega arith), protocol-given (bits 0 5 (byte 2 s)) (omega arith), session-given (bits 6 2 r) (omega arith), inside (bits 0 6 r) 0 0x3F (bits 0 6 r) 9 (omega arith) (omega arith), inside (little (byte 4 s ∷ byte 5 s ∷ byte 6 s ∷ [])) 0 0xFFFFFF (little (byte 4 s ∷ byte 5 s ∷ byte 6 s ∷ [])) 9 (omega arith) v)
+    (_, refl)
 
 info-only : (i : ChannelInfo) → Only 9 (infoBytes i)
 info-only i =
@@ -126,25 +121,23 @@ info-only i =
     λ s. only-steps 9 (within 0 0x3F (i .«active_sessions»)) _ (only-ranged (i .«active_sessions») 0 0x3F (i .«active_sessions») 9)
     λ a. only-steps 9 (within 0 0xFFFFFF (i .«vendor_id»)) _ (only-ranged (i .«vendor_id») 0 0xFFFFFF (i .«vendor_id») 9) λ v. refl
 
--- Refusal 9: "a writer is given a record that no response reader gives", exactly then. Of the record's bytes it is said that they are bytes, as the machine's are.
-pub info-no-form : (i : ChannelInfo) → Bytes (i .«aux_info» .byte1 ∷ i .«aux_info» .byte2 ∷ []) → infoBytes i ≡ refused 9 [] ↔ ((s : List ℕ) → Bytes s × (infoOf s ≡ accepted i) → ⊥)
-info-no-form i b = no-form (infoBytes i) (λ s. Bytes s × (infoOf s ≡ accepted i)) (info-only i) (λ s e. (info-bytes i s b e, info-back i s e)) (λ s g. info-given s i (g .0) (g .1))
+-- Row 9 of the response.
+pub info-no-form : (i : ChannelInfo) → Typed i → NoForm infoOf infoBytes i
+info-no-form i b = nine infoOf infoBytes i (info-only i) (λ s e. (info-bytes i s b e, info-back i s e)) (λ s. info-given s i)
 
 -- The command.
 
--- "Request readers accept exactly the byte strings that some command of its kind writes", and give that command.
-pub command-iff : (s : List ℕ) (k : GetChannelInfo) → commandOf s ≡ accepted k ↔ commandBytes k ≡ accepted s
-command-iff s k = (go (eqb (length s) 1) (channelOf (byte 0 s)) refl refl, back (channelField (k .channel)) refl)
-  where
-    go : (b : Bool) (x : Outcome Channel) → eqb (length s) 1 ≡ b → channelOf (byte 0 s) ≡ x
-        → (if b then faultsAs 10 (x >>= λ c. accepted (command c)) else refused 10 []) ≡ accepted k → commandBytes k ≡ accepted s
-    go false x p q e = absurd (apart e)
-    go true (refused n v) p q e = absurd (apart e)
-    go true (accepted c) p q e = let z : command c ≡ k = cc in rw (← z, channel-iff (byte 0 s) c .0 q, so-long s 1 (eqb-true (length s) 1 p))
-
-    back : (x : Outcome ℕ) → channelField (k .channel) ≡ x → (x >>= λ n. accepted (n ∷ [])) ≡ accepted s → commandOf s ≡ accepted k
-    back (refused n v) p e = absurd (apart e)
-    back (accepted n) p e = let z : _≡_ {A = List ℕ} (n ∷ []) s = cc in rw (← z, channel-iff n (k .channel) .1 p)
+-- Row 10.
+pub command-strict : Strict commandOf (λ k s. commandBytes k ≡ accepted s)
+command-strict =
+    strict 1 (λ s. channelOf (byte 0 s) >>= λ c. accepted (command c)) _
+    (λ s k b l e. let (c, ec, f) = steps (channelOf (byte 0 s)) _ e in
+    let z : command c ≡ k = cc in
+    rw (← z, channel-iff (byte 0 s) c .0 ec, so-long s 1 l))
+    λ s k e. let (n, en, f) = steps (channelField (k .channel)) _ e in
+    let z : _≡_ {A = List ℕ} (n ∷ []) s = cc in
+    let small = channel-small (k .channel) n en in
+    rw (← z) ((omega arith, tt), refl, rw (channel-iff n (k .channel) .1 en))
 
 -- Refusal 9: ".. or a command whose channel no number makes", exactly then.
 pub command-no-form : (k : GetChannelInfo) → commandBytes k ≡ refused 9 [] ↔ ((n : ℕ) → channelOf n ≡ accepted (k .channel) → ⊥)

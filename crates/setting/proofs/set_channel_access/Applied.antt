@@ -17,12 +17,12 @@ use Rattle.channel.specs.declared.get_channel_access.ChannelAccessMode.the-vari
 use Rattle.channel.specs.declared.get_channel_access.ChannelAccessType.{ChannelAccessType}
 use Rattle.channel.specs.declared.get_channel_access.ChannelAccessType.the-variants.{NonVolatile, Volatile}
 use Rattle.channel.specs.declared.get_channel_access.ChannelPrivilegeLevel.the-variants as Level
-use Rattle.channel.proofs.get_channel_access.Laws.{first}
+use Rattle.channel.proofs.get_channel_access.Laws.{access-two, first}
 use Rattle.setting.specs.SetChannelAccess.{applied, changed, chosen, command, commandBytes, commandOf, joined, pairOf, partsBytes, sets}
 use Rattle.setting.specs.declared.set_channel_access.AccessPair.the-variants as Pair
 use Rattle.setting.specs.declared.set_channel_access.ChannelSettings.{ChannelSettings}
 use Rattle.setting.specs.declared.set_channel_access.SetChannelAccess.{SetChannelAccess}
-use Rattle.setting.proofs.set_channel_access.Laws.{pair-back, parts-are, parts-only, shown-two}
+use Rattle.setting.proofs.set_channel_access.Laws.{pair-back, parts-are, parts-only}
 
 -- the setting that a Get of either kind asks for
 abbrev pub settingOf : ChannelAccessType → ChannelSettings → ChannelAccess
@@ -130,7 +130,7 @@ get-bytes k x y z w before after e kind f l g =
     let (c, ec, w1) = steps (channelField (k .channel)) (λ c. partsBytes k >>= λ p. accepted (c ∷ p)) w in
     let (p, ep, w2) = steps (partsBytes k) (λ p. accepted (c ∷ p)) w1 in
     let (m, n, t, em, en, et, h) = parts-are k p ep in
-    let (long, first, second) = shown-two (k .access) et in
+    let (long, first, second) = access-two (k .access) et in
     let (sm, pm) = pair-back (k .«mode_pair») m em in
     let (sn, pn) = pair-back (k .«limit_pair») n en in
     let ey : y ≡ byte 0 t + m * 2 ^ 6 = cc in

@@ -6,7 +6,7 @@ use mathlib.Core.List.{List, [], _∷_}
 use Prim.Native.Nat.{ℕ, _+_, _*_, _%_, _^_, _-_, _≤_, _<_}
 use native.Mathlib.Nat.{add-comm, div-one}
 use native.Mathlib.Omega.{arith}
-use borrow.Author.Tests.{eqb-true, ltb-true, ltb-false}
+use borrow.Author.Tests.{ltb-true, ltb-false}
 use lib.Bits.{bitOr, or-shifted-r}
 use lib.Dec.{eqb, ltb, lit<, lit≤}
 use lib.ListN.{List·getD-eq-default, length, take, drop, length-drop}
@@ -14,20 +14,21 @@ use lib.Pow.{field, mod-mod-pow, mod-pow-add, shl-exact}
 use lib.Seq.{take-all}
 use mir.Val.{boolByte}
 use Rattle.base.specs.Connection.{channelOf, channelField}
-use Rattle.base.specs.Field.{Bytes, byte, bits, flag, within}
+use Rattle.base.specs.Field.{byte, bits, flag, within, Bytes}
 use Rattle.base.specs.Outcome.{Outcome, accepted, refused, _>>=_, faultsAs}
 use Rattle.base.specs.Written.{Writes, written, lengthOf}
 use Rattle.base.specs.declared.refusal.Refusal.{Refusal}
 use Rattle.base.specs.declared.written.Written.the-variants.{Length, Refused}
-use Rattle.base.proofs.Outcome.{apart, steps, Only, only-steps, no-form, ranged}
+use Rattle.base.proofs.Outcome.{apart, steps, Only, only-steps, ranged}
+use Rattle.base.proofs.Rows.{NoForm, nine, Strict, strict}
 use Rattle.base.proofs.connection.Laws.{begins-only, channel-iff, channel-small}
-use Rattle.base.proofs.field.Laws.{below, bit-small, same, so-long}
+use Rattle.base.proofs.field.Laws.{below, same, so-long, bit-small}
 use Rattle.base.proofs.little.Laws.{a-byte}
 use Rattle.base.proofs.written.Laws.{filled}
-use Rattle.channel.specs.GetChannelAccess.{accessBytes, accessFields, accessOf, limitField, modeField}
+use Rattle.channel.specs.GetChannelAccess.{accessBytes, accessFields, accessOf}
 use Rattle.channel.specs.declared.get_channel_access.ChannelAccess.{ChannelAccess}
-use Rattle.channel.proofs.get_channel_access.Laws.{access-back, access-given, access-only, first, limit-back, limit-given, mode-back, mode-given}
-use Rattle.setting.specs.SetChannelAccess.{command, commandBytes, commandOf, pairs, pairOf, pairField, pairIn, pairValue, partsBytes}
+use Rattle.channel.proofs.get_channel_access.Laws.{access-back, access-bytes, access-given, access-only, access-two, limit-given, mode-given, first, limit-back, mode-back}
+use Rattle.setting.specs.SetChannelAccess.{command, commandBytes, commandOf, pairs, pairOf, pairField, pairIn, partsBytes, pairValue}
 use Rattle.setting.specs.declared.set_channel_access.AccessPair.{AccessPair}
 use Rattle.setting.specs.declared.set_channel_access.AccessPair.the-variants.{Leave, NonVolatile, Volatile, Reserved}
 use Rattle.setting.specs.declared.set_channel_access.SetChannelAccess.{SetChannelAccess}
@@ -68,50 +69,22 @@ pair-iff byte p = (go (ltb (bits 6 2 byte) 3) refl, λ e. let z = pair-back p (b
 pub set-pair : (pair x : ℕ) → pair < 3 → x < 64 → bitOr x (pair * 64 % 256) ≡ x + pair * 2 ^ 6
 set-pair pair x h p = rw (shl-exact {a = pair} 2 6 8 (omega arith) (lit≤ tt)) (or-shifted-r pair 6 x p ∙ add-comm (pair * 2 ^ 6) x)
 
--- What a Get shows has two bytes: bits 7:6 of the first and 7:4 of the second are clear.
-
-abbrev Two : Outcome (List ℕ) → Type 0
-Two (accepted s) = (length s ≡ 2) × (byte 0 s < 64) × (byte 1 s < 16)
-Two (refused n v) = Unit {0}
-
-two : (a : ChannelAccess) → Two (accessBytes a)
-two a = go (modeField (a .«access_mode»)) (limitField (a .«privilege_level_limit»)) refl refl
-  where
-    go : (x y : Outcome ℕ) → modeField (a .«access_mode») ≡ x → limitField (a .«privilege_level_limit») ≡ y
-        → Two (x >>= λ m. y >>= λ l. accepted (first m (a .«user_level_auth_disabled») (a .«per_msg_auth_disabled») (a .«alerting_disabled») ∷ l ∷ []))
-    go (refused n v) y p q = tt
-    go (accepted m) (refused n v) p q = tt
-    go (accepted m) (accepted l) p q =
-        let (small, _) = mode-back (a .«access_mode») m p in
-        let (low, _) = limit-back (a .«privilege_level_limit») l q in
-        let u = bit-small (a .«user_level_auth_disabled») in
-        let w = bit-small (a .«per_msg_auth_disabled») in
-        let z = bit-small (a .«alerting_disabled») in
-        (refl, omega arith, low)
-
-pub shown-two : (a : ChannelAccess) {s : List ℕ} → accessBytes a ≡ accepted s → (length s ≡ 2) × (byte 0 s < 64) × (byte 1 s < 16)
-shown-two a {s} e = go (accessBytes a) (two a) e
-  where
-    go : (x : Outcome (List ℕ)) → Two x → x ≡ accepted s → (length s ≡ 2) × (byte 0 s < 64) × (byte 1 s < 16)
-    go (accepted t) w e = let z : t ≡ s = cc in rw (← z) w
-    go (refused n v) w e = absurd (apart e)
-
 -- what the response's writer leaves in two bytes, and what it says where it leaves nothing
 pub shown : (a : ChannelAccess) {n : ℕ} {after : List ℕ} → Writes (accessBytes a) (Length n) (0 ∷ 0 ∷ []) after → accessBytes a ≡ accepted after
 unfolding written lengthOf
-shown a w = go (accessBytes a) (two a) w
+shown a w = go (accessBytes a) (λ s e. access-two a e .0) w
   where
-    go : (x : Outcome (List ℕ)) → Two x → {n : ℕ} {after : List ℕ} → Writes x (Length n) (0 ∷ 0 ∷ []) after → x ≡ accepted after
-    go (accepted s) t w = rw (filled w (t .0))
-    go (refused n v) t w = absurd (apart (sym (w .answers)))
+    go : (x : Outcome (List ℕ)) → ((s : List ℕ) → x ≡ accepted s → length s ≡ 2) → {n : ℕ} {after : List ℕ} → Writes x (Length n) (0 ∷ 0 ∷ []) after → x ≡ accepted after
+    go (accepted s) two w = rw (filled w (two s refl))
+    go (refused n v) two w = absurd (apart (sym (w .answers)))
 
 pub not-shown : (a : ChannelAccess) {r : Refusal} {after : List ℕ} → Writes (accessBytes a) (Refused r) (0 ∷ 0 ∷ []) after → accessBytes a ≡ refused 9 []
 unfolding written lengthOf
-not-shown a w = go (accessBytes a) (two a) (access-only a) w
+not-shown a w = go (accessBytes a) (λ s e. access-two a e .0) (access-only a) w
   where
-    go : (x : Outcome (List ℕ)) → Two x → Only 9 x → {r : Refusal} {after : List ℕ} → Writes x (Refused r) (0 ∷ 0 ∷ []) after → x ≡ refused 9 []
-    go (accepted s) t o w = absurd (apart (rw (t .0) at (w .answers)))
-    go (refused n v) t o w = sym o
+    go : (x : Outcome (List ℕ)) → ((s : List ℕ) → x ≡ accepted s → length s ≡ 2) → Only 9 x → {r : Refusal} {after : List ℕ} → Writes x (Refused r) (0 ∷ 0 ∷ []) after → x ≡ refused 9 []
+    go (accepted s) two o w = absurd (apart (rw (two s refl) at (w .answers)))
+    go (refused n v) two o w = sym o
 
 -- all bytes behind the first, as the reader cuts them off
 pub rest : (s : List ℕ) {x : Outcome ChannelAccess} → x ≡ accessOf (take (length s - 1) (drop 1 s)) → x ≡ accessOf (drop 1 s)
@@ -148,11 +121,6 @@ beside f l m n h g =
     let l0 : bits 0 4 z ≡ bits 0 4 l = sym (low-bits z 0 4 2) ∙ rw second in
     rw (b0, b3, b4, b5, l0)
 
--- What is accepted under `faultsAs` is accepted without it.
-unfaulted : {A : Type 0} (n : ℕ) (x : Outcome A) {a : A} → faultsAs n x ≡ accepted a → x ≡ accepted a
-unfaulted n (accepted b) e = e
-unfaulted n (refused k v) e = absurd (apart e)
-
 -- the reader on three bytes
 module _ (x y z : ℕ) (k : SetChannelAccess) where
   abbrev reading : Outcome SetChannelAccess
@@ -186,7 +154,7 @@ given : (k : SetChannelAccess) (x m l : ℕ) (t : List ℕ) → channelField (k 
     → pairField (k .«limit_pair») ≡ accepted l → accessBytes (k .access) ≡ accepted t
     → reading x (byte 0 t + m * 2 ^ 6) (byte 1 t + l * 2 ^ 6) k ≡ accepted k
 given k x m l t ec em el ea =
-    let (long, f, g) = shown-two (k .access) ea in
+    let (long, f, g) = access-two (k .access) ea in
     let (sm, _) = pair-back (k .«mode_pair») m em in
     let (sl, _) = pair-back (k .«limit_pair») l el in
     let y = byte 0 t + m * 2 ^ 6 in
@@ -197,38 +165,28 @@ given k x m l t ec em el ea =
     let back : accessFields (byte 0 t) (byte 1 t) ≡ k .access = cc (rw (← so-long t 2 long) at (access-back (k .access) t ea)) in
     rw (channel-iff x (k .channel) .1 ec, pair-iff y (k .«mode_pair») .1 (em ∙ rw pm), pair-iff z (k .«limit_pair») .1 (el ∙ rw pl), clear, beside (byte 0 t) (byte 1 t) m l f g, back)
 
--- The reader gives back the command that the writer wrote.
-pub command-back : (k : SetChannelAccess) (s : List ℕ) → commandBytes k ≡ accepted s → commandOf s ≡ accepted k
-command-back k s e =
-    let (x, ec, f) = steps (channelField (k .channel)) (λ x. partsBytes k >>= λ p. accepted (x ∷ p)) e in
+-- Row 10.
+pub command-strict : Strict commandOf (λ k s. commandBytes k ≡ accepted s)
+command-strict =
+    strict 3 (λ s. channelOf (byte 0 s) >>= λ c. pairIn (byte 1 s) >>= λ m. pairIn (byte 2 s) >>= λ l. within 0 0 (bits 4 2 (byte 2 s)) >>= λ r. accessOf (drop 1 s) >>= λ a. accepted (command c m l a)) _
+    (λ s k b l e. let z = so-long s 3 l in rw (← z) (taken (byte 0 s) (byte 1 s) (byte 2 s) k (a-byte s b 1) (a-byte s b 2) (rw (← z) at e)))
+    λ s k e. let (x, ec, f) = steps (channelField (k .channel)) (λ x. partsBytes k >>= λ p. accepted (x ∷ p)) e in
     let (p, ep, g) = steps (partsBytes k) (λ p. accepted (x ∷ p)) f in
     let (m, l, t, em, el, ea, h) = parts-are k p ep in
-    let z : _≡_ {A = List ℕ} (x ∷ (byte 0 t + m * 2 ^ 6) ∷ (byte 1 t + l * 2 ^ 6) ∷ []) s = cc in
-    rw (← z, given k x m l t ec em el ea)
-
--- "Request readers accept exactly the byte strings that some command of its kind writes", and give that command.
-pub command-iff : (s : List ℕ) (k : SetChannelAccess) → Bytes s → commandOf s ≡ accepted k ↔ commandBytes k ≡ accepted s
-command-iff s k b = (go (eqb (length s) 3) refl, command-back k s)
-  where
-    go : (x : Bool) → eqb (length s) 3 ≡ x → commandOf s ≡ accepted k → commandBytes k ≡ accepted s
-    go false h e = absurd (apart (rw h at e))
-    go true h e =
-        let z = so-long s 3 (eqb-true (length s) 3 h) in
-        rw (← z) (taken (byte 0 s) (byte 1 s) (byte 2 s) k (a-byte s b 1) (a-byte s b 2) (unfaulted 10 (reading (byte 0 s) (byte 1 s) (byte 2 s) k) (rw (← z) at e)))
-
--- What a command writes are bytes, and it is refused by 9 alone.
-
-command-bytes : (k : SetChannelAccess) (s : List ℕ) → commandBytes k ≡ accepted s → Bytes s
-command-bytes k s e =
-    let (x, ec, f) = steps (channelField (k .channel)) (λ x. partsBytes k >>= λ p. accepted (x ∷ p)) e in
-    let (p, ep, g) = steps (partsBytes k) (λ p. accepted (x ∷ p)) f in
-    let (m, l, t, em, el, ea, h) = parts-are k p ep in
-    let (long, first, second) = shown-two (k .access) ea in
+    let (long, first, second) = access-two (k .access) ea in
     let sx = channel-small (k .channel) x ec in
     let sm = pair-back (k .«mode_pair») m em .0 in
     let sl = pair-back (k .«limit_pair») l el .0 in
     let z : _≡_ {A = List ℕ} (x ∷ (byte 0 t + m * 2 ^ 6) ∷ (byte 1 t + l * 2 ^ 6) ∷ []) s = cc in
-    rw (← z) (omega arith, (omega arith, (omega arith, tt)))
+    rw (← z) ((omega arith, (omega arith, (omega arith, tt))), refl {a = 3}, given k x m l t ec em el ea)
+
+pub command-iff : (s : List ℕ) (k : SetChannelAccess) → Bytes s → commandOf s ≡ accepted k ↔ commandBytes k ≡ accepted s
+command-iff = command-strict .iff
+
+pub command-back : (k : SetChannelAccess) (s : List ℕ) → commandBytes k ≡ accepted s → commandOf s ≡ accepted k
+command-back k s e = command-iff s k (command-strict .bytes s k e) .1 e
+
+-- A command is refused by 9 alone.
 
 pair-only : (p : AccessPair) → Only 9 (pairField p)
 pair-only Leave = refl
@@ -243,19 +201,18 @@ parts-only k =
 command-only : (k : SetChannelAccess) → Only 9 (commandBytes k)
 command-only k = begins-only (k .channel) (λ x. partsBytes k >>= λ p. accepted (x ∷ p)) λ x. only-steps 9 (partsBytes k) _ (parts-only k) λ p. refl
 
--- Refusal 9 on writing: exactly where no request gives the command.
-pub command-no-form : (k : SetChannelAccess) → commandBytes k ≡ refused 9 [] ↔ ((s : List ℕ) → Bytes s × (commandOf s ≡ accepted k) → ⊥)
-command-no-form k =
-    no-form (commandBytes k) (λ s. Bytes s × (commandOf s ≡ accepted k)) (command-only k) (λ s e. (command-bytes k s e, command-back k s e)) (λ s g. (s, command-iff s k (g .0) .0 (g .1)))
+-- Row 9, on writing: no request gives the command.
+pub command-no-form : (k : SetChannelAccess) → NoForm commandOf commandBytes k
+command-no-form k = nine commandOf commandBytes k (command-only k) (λ s e. (command-strict .bytes s k e, command-back k s e)) (λ s b g. (s, command-iff s k b .0 g))
 
 -- Bytes 1 and 2 have a form exactly where neither pair is 11 and some Get response gives the mode and the limit.
 pub parts-form : (k : SetChannelAccess) → ((p : List ℕ) × (partsBytes k ≡ accepted p))
-    ↔ ((k .«mode_pair» ≡ Reserved → ⊥) × (k .«limit_pair» ≡ Reserved → ⊥) × ((s : List ℕ) × (accessOf s ≡ accepted (k .access))))
+    ↔ ((k .«mode_pair» ≡ Reserved → ⊥) × (k .«limit_pair» ≡ Reserved → ⊥) × ((s : List ℕ) × Bytes s × (accessOf s ≡ accepted (k .access))))
 parts-form k = (
-  (λ (p, e). let (m, l, t, em, el, ea, h) = parts-are k p e in (unreserved (k .«mode_pair») em, unreserved (k .«limit_pair») el, (t, access-back (k .access) t ea))),
-  λ (h, i, g). let (m, em) = legal (k .«mode_pair») h in
+  (λ (p, e). let (m, l, t, em, el, ea, h) = parts-are k p e in (unreserved (k .«mode_pair») em, unreserved (k .«limit_pair») el, (t, access-bytes (k .access) t ea, access-back (k .access) t ea))),
+  λ (h, i, (s, b, g)). let (m, em) = legal (k .«mode_pair») h in
       let (l, el) = legal (k .«limit_pair») i in
-      let (t, ea) = access-given (g .0) (k .access) (g .1) in
+      let (t, ea) = access-given s (k .access) g in
       (((byte 0 t + m * 2 ^ 6) ∷ (byte 1 t + l * 2 ^ 6) ∷ []), rw (em, el, ea)),
 )
   where

@@ -8,23 +8,25 @@ use Prim.Native.Nat.{ℕ, zero, suc, _+_, _-_, _≤_, _<_}
 use native.Mathlib.Numerals.{add-one}
 use native.Mathlib.Omega.{arith}
 use borrow.Author.Tests.{eq-eqb, ne-eqb, eqb-true, ltb-true, ltb-false, lt-ltb, le-ltb}
-use lib.Dec.{eqb, ltb}
+use lib.Dec.{eqb, lit<, ltb}
 use lib.ListN.{length, getD, take, drop, replicate, length-take, length-drop, take-append-drop, drop-of-length-le, List·getD-eq-default}
 use lib.Seq.{drop-cons, drop-append-seam, take-append-seam}
 use Rattle.base.specs.Choice.{if_then_else_}
 use Rattle.base.specs.Connection.{channelOf, channelField}
-use Rattle.base.specs.Field.{byte, within}
+use Rattle.base.specs.Field.{Bytes, byte, within}
 use Rattle.base.specs.Named.{named}
-use Rattle.base.specs.Outcome.{Outcome, accepted, refused}
+use Rattle.base.specs.Outcome.{accepted, refused, _>>=_}
 use Rattle.base.specs.declared.connection.Channel.{Channel}
-use Rattle.base.proofs.Outcome.{apart, Only, no-form, steps, only-steps, only-refused, inside, ranged, only-ranged}
-use Rattle.base.proofs.connection.Laws.{channel-iff, begins-only}
+use Rattle.base.proofs.Outcome.{apart, otherwise, when, Only, steps, only-steps, only-else, only-refused, inside, ranged, only-ranged}
+use Rattle.base.proofs.Rows.{NoForm, nine, Strict, strict}
+use Rattle.base.proofs.connection.Laws.{channel-iff, channel-small, begins-only}
 use Rattle.base.specs.Written.{Writes}
 use Rattle.base.specs.declared.written.Written.{Written}
 use Rattle.base.proofs.field.Laws.{below, so-long}
+use Rattle.base.proofs.little.Laws.{are-bytes, bytes-take}
 use Rattle.base.proofs.written.Laws.{padding}
 use Rattle.auth.specs.Algorithms as Algorithms
-use Rattle.suites.specs.GetChannelCipherSuites.{authenticationOf, column, command, commandBytes, commandOf, confidentialityOf, find, integrityOf, part, partOf, row, rowOf, same, suite, suiteFor, suiteOf, suites, suitesBytes, zeros}
+use Rattle.suites.specs.GetChannelCipherSuites.{Typed, authenticationOf, column, command, commandBytes, commandOf, commandOn, confidentialityOf, find, integrityOf, part, row, rowOf, same, suite, suiteFor, suiteOf, suites, suitesBytes, zeros, partOf}
 use Rattle.collector.specs.Collector.{lastIndex, partLength}
 use Rattle.suites.specs.declared.get_channel_cipher_suites.ChannelCipherSuites.{ChannelCipherSuites}
 use Rattle.suites.specs.declared.get_channel_cipher_suites.CipherSuite.{CipherSuite}
@@ -33,33 +35,25 @@ use Rattle.suites.specs.declared.get_channel_cipher_suites.Row.{Row}
 
 -- The request.
 
--- "Request readers accept exactly the byte strings that some command of its kind writes", and give that command.
-pub command-iff : (s : List ℕ) (k : GetChannelCipherSuites) → commandOf s ≡ accepted k ↔ commandBytes k ≡ accepted s
-command-iff s k = (λ e. go (eqb (length s) 3) (channelOf (byte 0 s)) (eqb (byte 1 s) 0) (ltb lastIndex (byte 2 s)) refl refl refl refl e, back)
-  where
-    go : (b : Bool) (x : Outcome Channel) (y z : Bool) → eqb (length s) 3 ≡ b → channelOf (byte 0 s) ≡ x → eqb (byte 1 s) 0 ≡ y → ltb lastIndex (byte 2 s) ≡ z → commandOf s ≡ accepted k → commandBytes k ≡ accepted s
-    go false x y z p q r u e = absurd (apart (rw p at e))
-    go true (refused n v) y z p q r u e = absurd (apart (rw (p, q) at e))
-    go true (accepted c) false z p q r u e = absurd (apart (rw (p, q, r) at e))
-    go true (accepted c) true true p q r u e = absurd (apart (rw (p, q, r, u) at e))
-    go true (accepted c) true false p q r u e =
-        let f = rw (p, q, r, u) at e in
-        let z : command c (byte 2 s) ≡ k = cc in
-        let zero = eqb-true (byte 1 s) 0 r in
-        let whole = so-long s 3 (eqb-true (length s) 3 p) in
-        rw (← z, channel-iff (byte 0 s) c .0 q, inside (byte 2 s) 0 lastIndex (byte 2 s) 9 (omega arith) (ltb-false lastIndex (byte 2 s) u)) (ap accepted (rw zero at whole))
+on-index : (c : Channel) (i : ℕ) {k : GetChannelCipherSuites} → commandOn c i ≡ accepted k → (i ≤ lastIndex) × (command c i ≡ k)
+on-index c i e = let (p, f) = otherwise 7 (ltb lastIndex i) e in (ltb-false lastIndex i p, cc)
 
-    back : commandBytes k ≡ accepted s → commandOf s ≡ accepted k
-    back e =
-        let (n, f, e1) = steps (channelField (k .channel)) _ e in
-        let (i, g, e2) = steps (within 0 lastIndex (k .«list_index»)) _ e1 in
-        let w = ranged (k .«list_index») 0 lastIndex (k .«list_index») 9 g in
-        written n i (w .1) (w .2) f e2
-      where
-        written : (n i : ℕ) → k .«list_index» ≤ lastIndex → k .«list_index» ≡ i → channelField (k .channel) ≡ accepted n → accepted (n ∷ 0 ∷ i ∷ []) ≡ accepted s → commandOf s ≡ accepted k
-        written n i small same f e =
-            let z : _≡_ {A = List ℕ} (n ∷ 0 ∷ i ∷ []) s = cc in
-            rw (← z, channel-iff n (k .channel) .1 f, ← same, le-ltb lastIndex (k .«list_index») small)
+-- Row 10.
+pub command-strict : Strict commandOf (λ k s. commandBytes k ≡ accepted s)
+command-strict =
+    strict 3 (λ s. channelOf (byte 0 s) >>= λ c. within 0 0 (byte 1 s) >>= λ payload. commandOn c (byte 2 s)) _
+    (λ s k b l e. let (c, ec, f) = steps (channelOf (byte 0 s)) _ e in
+    let (p, ep, g) = steps (within 0 0 (byte 1 s)) (λ payload. commandOn c (byte 2 s)) f in
+    let (small, z) = on-index c (byte 2 s) g in
+    let none = ranged (byte 1 s) 0 0 (byte 1 s) 9 {b = p} ep .1 in
+    let zero : byte 1 s ≡ 0 = omega arith in
+    rw (← z, channel-iff (byte 0 s) c .0 ec, inside (byte 2 s) 0 lastIndex (byte 2 s) 9 (omega arith) small) (ap accepted (rw zero at (so-long s 3 l))))
+    λ s k e. let (n, en, f) = steps (channelField (k .channel)) _ e in
+    let (i, ei, g) = steps (within 0 lastIndex (k .«list_index»)) _ f in
+    let (_, small, same) = ranged (k .«list_index») 0 lastIndex (k .«list_index») 9 {b = i} ei in
+    let z : _≡_ {A = List ℕ} (n ∷ 0 ∷ i ∷ []) s = cc in
+    let low = channel-small (k .channel) n en in
+    rw (← z, ← same) ((omega arith, (lit< tt, (omega arith, tt))), refl {a = 3}, rw (channel-iff n (k .channel) .1 en, le-ltb lastIndex (k .«list_index») small))
 
 -- Refusal 9: ".. or a command whose channel no number makes or whose index is above 0x3F", exactly then.
 pub command-no-form : (k : GetChannelCipherSuites) → commandBytes k ≡ refused 9 [] ↔ ((n : ℕ) → channelOf n ≡ accepted (k .channel) → k .«list_index» ≤ lastIndex → ⊥)
@@ -101,42 +95,33 @@ unfolding zeros
 zeros-are zero = refl
 zeros-are (suc n) = zeros-are n
 
--- The reader gives back what the writer wrote. The machine's records have a part's length.
-pub suites-back : (c : ChannelCipherSuites) (s : List ℕ) → length (c .«record_data») ≡ partLength → suitesBytes c ≡ accepted s → partOf s ≡ accepted c
-suites-back c s l e = go (ltb partLength (c .«data_length»)) (zeros (drop (c .«data_length») (c .«record_data»))) refl refl
-  where
-    go : (x y : Bool) → ltb partLength (c .«data_length») ≡ x → zeros (drop (c .«data_length») (c .«record_data»)) ≡ y → partOf s ≡ accepted c
-    go true y p q = absurd (apart (rw p at e))
-    go false false p q = absurd (apart (rw (p, q) at e))
-    go false true p q =
-        let n = c .«data_length» in
-        let d = c .«record_data» in
-        let f = rw (p, q) at e in
-        let z : take n d ≡ s = cc in
-        let h = ltb-false partLength n p in
-        let long : length (take n d) ≡ n = rw length-take (omega arith) in
-        let rest : drop n d ≡ replicate (16 - n) 0 = all-zero (drop n d) q ∙ rw (length-drop, l) in
-        rw (← z, long, p, ← rest, take-append-drop n d)
+-- The reader gives back what the writer wrote, a string of bytes.
+pub suites-back : (c : ChannelCipherSuites) (s : List ℕ) → Typed c → suitesBytes c ≡ accepted s → Bytes s × (partOf s ≡ accepted c)
+suites-back c s (l, b) e =
+    let n = c .«data_length» in
+    let d = c .«record_data» in
+    let (p, f) = otherwise 9 (ltb partLength (c .«data_length»)) e in
+    let (q, g) = when 9 (zeros (drop (c .«data_length») (c .«record_data»))) f in
+    let z : take n d ≡ s = cc in
+    let h = ltb-false partLength n p in
+    let long : length (take n d) ≡ n = rw length-take (omega arith) in
+    let rest : drop n d ≡ replicate (16 - n) 0 = all-zero (drop n d) q ∙ rw (length-drop, l) in
+    rw (← z) (bytes-take n d (are-bytes d b), rw (long, p, ← rest, take-append-drop n d))
 
 -- The writer writes every record that some response gives: the response itself.
 pub suites-given : (s : List ℕ) (c : ChannelCipherSuites) → partOf s ≡ accepted c → suitesBytes c ≡ accepted s
-suites-given s c e = go (ltb partLength (length s)) refl
-  where
-    go : (x : Bool) → ltb partLength (length s) ≡ x → suitesBytes c ≡ accepted s
-    go true p = absurd (apart (rw p at e))
-    go false p =
-        let f = rw p at e in
-        let z : part s ≡ c = cc in
-        rw (← z, p, drop-append-seam s (replicate (16 - length s) 0), zeros-are (16 - length s), take-append-seam s (replicate (16 - length s) 0))
+suites-given s c e =
+    let (p, f) = otherwise 2 (ltb partLength (length s)) e in
+    let z : part s ≡ c = cc in
+    rw (← z, p, drop-append-seam s (replicate (16 - length s) 0), zeros-are (16 - length s), take-append-seam s (replicate (16 - length s) 0))
 
--- Refusal 9: "a writer is given a record that no response reader gives", exactly then.
-pub suites-no-form : (c : ChannelCipherSuites) → length (c .«record_data») ≡ partLength → suitesBytes c ≡ refused 9 [] ↔ ((s : List ℕ) → partOf s ≡ accepted c → ⊥)
-suites-no-form c l = no-form (suitesBytes c) (λ s. partOf s ≡ accepted c) (go (ltb partLength (c .«data_length»)) (zeros (drop (c .«data_length») (c .«record_data»)))) (λ s e. suites-back c s l e) (λ s g. (s, suites-given s c g))
+-- Row 9 of the response.
+pub suites-no-form : (c : ChannelCipherSuites) → Typed c → NoForm partOf suitesBytes c
+suites-no-form c h = nine partOf suitesBytes c (only-else 9 (ltb partLength (c .«data_length»)) _ (go (zeros (drop (c .«data_length») (c .«record_data»))))) (λ s e. suites-back c s h e) (λ s _ g. (s, suites-given s c g))
   where
-    go : (x y : Bool) → Only 9 (if x then refused 9 [] else if y then accepted (take (c .«data_length») (c .«record_data»)) else refused 9 [])
-    go true y = refl
-    go false true = refl
-    go false false = refl
+    go : (y : Bool) → Only 9 (if y then accepted (take (c .«data_length») (c .«record_data»)) else refused 9 [])
+    go true = refl
+    go false = refl
 
 -- Reading the table by number.
 
@@ -145,11 +130,10 @@ named-at [] d n h = absurd (omega arith)
 named-at (x ∷ rows) d zero h = refl
 named-at (x ∷ rows) d (suc n) h = named-at rows d n (omega arith)
 
-pub row-at : (n : ℕ) → n < 20 → rowOf n ≡ some (getD suites n (row 0 0 0))
-unfolding suites
+pub row-at : (n : ℕ) → n < length suites → rowOf n ≡ some (getD suites n (row 0 0 0))
 row-at n h = named-at suites (row 0 0 0) n h
 
-pub no-row : (n : ℕ) → 20 ≤ n → rowOf n ≡ none
+pub no-row : (n : ℕ) → length suites ≤ n → rowOf n ≡ none
 unfolding suites
 no-row n h = List·getD-eq-default (map some suites) none h
 
@@ -168,13 +152,17 @@ module _ (rows : List Row) (i : ℕ) (r d : Row) (h : i < length rows) where
 one-number : (j k : ℕ) → some (suite j) ≡ some (suite k) → j ≡ k
 one-number j k e = let z : suite j ≡ suite k = cc in ap (λ (s : CipherSuite). s .0) z
 
--- The table's rule, by one computed test: each row is found at its own number ..
-pub found : (n : ℕ) → n < 20 → column suiteFor (rowOf n) ≡ some (suite n)
+pub twenty-rows : length suites ≡ 20
 unfolding suites
-found = below 20 (λ n. column suiteFor (rowOf n)) (λ n. some (suite n)) refl
+twenty-rows = refl
+
+-- The table's rule, by one computed test: each row is found at its own number ..
+pub found : (n : ℕ) → n < length suites → column suiteFor (rowOf n) ≡ some (suite n)
+unfolding suites
+found = below (length suites) (λ n. column suiteFor (rowOf n)) (λ n. some (suite n)) refl
 
 -- .. so that no two rows are the same,
-pub rows-differ : (j k : ℕ) → j < 20 → k < 20 → rowOf j ≡ rowOf k → j ≡ k
+pub rows-differ : (j k : ℕ) → j < length suites → k < length suites → rowOf j ≡ rowOf k → j ≡ k
 rows-differ j k hj hk e = let p = found j hj in let q = found k hk in let r = ap (column suiteFor) e in one-number j k (cc)
 
 same-row : (a b : Row) → same a b ≡ true → a ≡ b
@@ -202,21 +190,21 @@ find-row (x ∷ rows) at n r e = go (same x r) refl e (λ f. find-row rows (suc 
 
 -- and that the two lookups are each other's inverse.
 pub row-iff : (n : ℕ) (r : Row) → rowOf n ≡ some r ↔ suiteFor r ≡ some (suite n)
-row-iff n r = (λ e. go (ltb n 20) refl e, back)
+row-iff n r = (λ e. go (ltb n (length suites)) refl e, back)
   where
-    go : (b : Bool) → ltb n 20 ≡ b → rowOf n ≡ some r → suiteFor r ≡ some (suite n)
-    go true p e = rw e at (found n (ltb-true n 20 p))
-    go false p e = let f = no-row n (ltb-false n 20 p) in let z : _≡_ {A = ℕ} 0 1 = cc in absurd (omega arith)
+    go : (b : Bool) → ltb n (length suites) ≡ b → rowOf n ≡ some r → suiteFor r ≡ some (suite n)
+    go true p e = rw e at (found n (ltb-true n (length suites) p))
+    go false p e = let f = no-row n (ltb-false n (length suites) p) in let z : _≡_ {A = ℕ} 0 1 = cc in absurd (omega arith)
 
     back : suiteFor r ≡ some (suite n) → rowOf n ≡ some r
     back e = let (j, f, g) = find-row suites 0 n r e in let z : n ≡ j = omega arith in rw z g
 
 -- a number is a suite's exactly where a row stands at it
-pub suite-iff : (n : ℕ) → suiteOf n ≡ some (suite n) ↔ n < 20
-suite-iff n = (λ e. go (ltb n 20) refl e, λ h. simp (lt-ltb n 20 h))
+pub suite-iff : (n : ℕ) → suiteOf n ≡ some (suite n) ↔ n < length suites
+suite-iff n = (λ e. go (ltb n (length suites)) refl e, λ h. simp (lt-ltb n (length suites) h))
   where
-    go : (b : Bool) → ltb n 20 ≡ b → (if b then some (suite n) else none) ≡ some (suite n) → n < 20
-    go true p e = ltb-true n 20 p
+    go : (b : Bool) → ltb n (length suites) ≡ b → (if b then some (suite n) else none) ≡ some (suite n) → n < length suites
+    go true p e = ltb-true n (length suites) p
     go false p e = let z : _≡_ {A = ℕ} 0 1 = cc in absurd (omega arith)
 
 -- Every number of the table names an algorithm, so a suite's three are never nothing; each is its own column's.
@@ -224,10 +212,10 @@ abbrev pub known : {A : Type 0} → Option A → Bool
 known none = false
 known (some a) = true
 
-pub all-known : (n : ℕ) → n < 20 → (known (authenticationOf n) ≡ true) × (known (integrityOf n) ≡ true) × (known (confidentialityOf n) ≡ true)
+pub all-known : (n : ℕ) → n < length suites → (known (authenticationOf n) ≡ true) × (known (integrityOf n) ≡ true) × (known (confidentialityOf n) ≡ true)
 unfolding suites
 all-known n h =
-    (below 20 (λ n. known (authenticationOf n)) (λ n. true) refl n h, below 20 (λ n. known (integrityOf n)) (λ n. true) refl n h, below 20 (λ n. known (confidentialityOf n)) (λ n. true) refl n h)
+    (below (length suites) (λ n. known (authenticationOf n)) (λ n. true) refl n h, below (length suites) (λ n. known (integrityOf n)) (λ n. true) refl n h, below (length suites) (λ n. known (confidentialityOf n)) (λ n. true) refl n h)
 
 pub third-column : (n : ℕ) (r : Row) → rowOf n ≡ some r → confidentialityOf n ≡ Algorithms.confidentialityOf (r .confidentiality)
 third-column n r e = rw e

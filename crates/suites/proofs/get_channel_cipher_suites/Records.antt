@@ -11,7 +11,7 @@ use lib.Dec.{eqb, ltb}
 use lib.ListN.{length, getD}
 use Rattle.base.specs.Choice.{if_then_else_}
 use Rattle.base.specs.Field.{byte}
-use Rattle.suites.specs.GetChannelCipherSuites.{algorithms, before, gives, isSuite, moved, nothing, numbersOf, recordStart, stepAfter, stepAt, stepNumber, stepOf, stepSuite, suite, suiteOf, upTo}
+use Rattle.suites.specs.GetChannelCipherSuites.{algorithms, before, gives, isSuite, moved, nothing, numbersOf, recordStart, stepAfter, stepAt, stepNumber, stepOf, stepSuite, suite, suiteOf, suites, upTo}
 use Rattle.suites.specs.declared.get_channel_cipher_suites.CipherSuite.{CipherSuite}
 use Rattle.suites.specs.declared.get_channel_cipher_suites.Iter.{Iter}
 use Rattle.suites.specs.declared.get_channel_cipher_suites.Step.{Step}
@@ -36,7 +36,7 @@ module _ (list : List ℕ) (p : ℕ) where
   view-known false = ended (p + 1 + 1) false
 
   view-number : (b : Bool) → View list p (if b then stepSuite list (p + 1) (suiteOf (byte (p + 1) list)) else nothing (p + 1) false)
-  view-number true = view-known (ltb (byte (p + 1) list) 20)
+  view-number true = view-known (ltb (byte (p + 1) list) (length suites))
   view-number false = ended (p + 1) false
 
   view-start : (b : Bool) → View list p (if b then stepNumber list (p + 1) else nothing (p + 1) true)

@@ -1,4 +1,5 @@
 use borrow.Author.Needs.{needs}
+use native.Mathlib.Nat.{zero-add}
 use native.Mathlib.Omega.{arith}
 use mathlib.Core.Path.{_≡_}
 use Prim.Native.Nat.{_-_}
@@ -13,7 +14,7 @@ returns : tie.Need-returns
 returns c =
     let s = c .before .before .before .args .name .now in
     let z : c .before .first-zero .result - 0 ≡ c .before .first-zero .result = omega arith in
-    rw (z, c .before .first-zero .ensures) (shown-part s)
+    record { lies = simp zero-add; shows = rw (z, c .before .first-zero .ensures) (shown-part s) }
 
 pub shown-spec : {M : Type 1} → statement M
 shown-spec =

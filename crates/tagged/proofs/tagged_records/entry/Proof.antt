@@ -6,7 +6,7 @@ returns : tie.Need-returns
 returns c = rw (c .enum-told .given .1)
 
 returns-2 : tie.Need-returns-2
-returns-2 c = rw (c .before .before .owner .given .1, c .bytes4 .ensures)
+returns-2 c = rw (c .before .before .owner .given .1, c .bytes3 .ensures)
 
 pub entry-spec : {M : Type 1} → statement M
 entry-spec =

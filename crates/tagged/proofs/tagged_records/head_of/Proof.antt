@@ -7,7 +7,7 @@ returns : tie.Need-returns
 returns c = rw (c .enum-told .given .1) (refl, refl)
 
 returns-2 : tie.Need-returns-2
-returns-2 c = rw (c .before .before .owner .given .1, c .bytes4 .ensures) (refl, refl)
+returns-2 c = rw (c .before .before .owner .given .1, c .bytes3 .ensures) (refl, refl)
 
 pub head-of-spec : {M : Type 1} → statement M
 head-of-spec =

@@ -3,7 +3,7 @@ use Rattle.challenge.proofs.get_session_challenge.GetSessionChallenge.u
 use Rattle.challenge.proofs.get_session_challenge.GetSessionChallenge.username.Tie as tie
 
 returns : tie.Need-returns
-returns c = rw (← c .before .before .before .before .shown .ensures) (c .before .before .place .ensures)
+returns c = rw (← c .before .before .before .before .shown .ensures .shows) (c .before .before .place .ensures)
 
 pub username-spec : {M : Type 1} → statement M
 username-spec =

@@ -39,8 +39,15 @@ add-sessions c = let small = session-back (c .before .before .before .before .be
 
 returns-7 : tie.Need-returns-7
 returns-7 c =
-    let a = c .before .before .before .before .before .before .before .before .before .before .before .before .before .before .before .before .before .before .before .before .before .before .before .before .before .before .args in
-    rw (← c .before .before .before .before .before .before .before .before .before .before .before .before .before .before .before .before .before .before .before .before .before .before .before .before .field .ensures, c .before .before .before .before .before .before .before .before .before .before .before .before .before .before .before .before .before .before .before .before .before .before .channel .given .1, ← c .before .before .before .before .before .before .before .before .before .before .before .before .before .before .before .before .before .before .before .before .field2 .ensures, c .before .before .before .before .before .before .before .before .before .before .before .before .before .before .before .before .before .before .medium .given .1, ← c .before .before .before .before .before .before .before .before .before .before .before .before .before .before .before .before .field3 .ensures, c .before .before .before .before .before .before .before .before .before .before .before .before .before .before .protocol .given .1, ← c .before .before .before .before .before .before .before .before .before .before .before .before .field4 .ensures, c .before .before .before .before .before .before .before .before .before .before .session .given .1) (simp (le-ltb (a .self .«active_sessions») 0 (omega arith), le-ltb (a .self .«vendor_id») 0 (omega arith), le-ltb 0x3F (a .self .«active_sessions») (omega arith), le-ltb 0xFFFFFF (a .self .«vendor_id») (omega arith)) (c .before .before .join .ensures))
+    let b = c .before .before .before .before .before .before in
+    let s = b .before .before .before .before .before in
+    let p = s .before .before .before .before in
+    let m = p .before .before .before .before in
+    let h = m .before .before .before .before in
+    let a = h .before .before .before .before .args in
+    rw
+    (← h .before .before .field .ensures, h .channel .given .1, ← m .before .before .field2 .ensures, m .medium .given .1, ← p .before .before .field3 .ensures, p .protocol .given .1, ← s .before .before .field4 .ensures, s .session .given .1)
+    (simp (le-ltb (a .self .«active_sessions») 0 (omega arith), le-ltb (a .self .«vendor_id») 0 (omega arith), le-ltb 0x3F (a .self .«active_sessions») (omega arith), le-ltb 0xFFFFFF (a .self .«vendor_id») (omega arith)) (rw (b .bytes3 .ensures) at (c .before .before .join .ensures)))
 
 pub write-spec : {M : Type 1} → statement M
 write-spec =
@@ -66,6 +73,7 @@ write-spec =
     returns-6
     mul-sessions
     add-sessions
+    (search needs)
     (search needs)
     (search needs)
     (search needs)

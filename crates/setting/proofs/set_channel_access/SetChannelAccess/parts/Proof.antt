@@ -2,7 +2,8 @@ use borrow.Author.Needs.{needs}
 use mathlib.Core.Path.{sym, _∙_, ap}
 use lib.ListN.{getD}
 use Rattle.base.specs.Field.{saidField}
-use Rattle.setting.proofs.set_channel_access.Laws.{not-shown, pair-back, set-pair, shown, shown-two}
+use Rattle.setting.proofs.set_channel_access.Laws.{not-shown, pair-back, set-pair, shown}
+use Rattle.channel.proofs.get_channel_access.Laws.{access-two}
 use native.Mathlib.Omega.{arith}
 use Rattle.setting.proofs.set_channel_access.SetChannelAccess.parts.Statement.{statement}
 use Rattle.setting.proofs.set_channel_access.SetChannelAccess.parts.Tie as tie
@@ -35,7 +36,7 @@ returns-4 c =
     let f = m .before .before in
     let self = f .before .before .args .self in
     let e = shown (self .access) (rw (c .enum-told3 .given .1) at (w .write .ensures)) in
-    let small = shown-two (self .access) e in
+    let small = access-two (self .access) e in
     let mode = pair-back (self .«mode_pair») (m .mode .given .0 .0) (sym (f .field .ensures) ∙ ap saidField (m .mode .given .1)) .0 in
     let limit = pair-back (self .«limit_pair») (k .limit .given .0 .0) (sym (l .field2 .ensures) ∙ ap saidField (k .limit .given .1)) .0 in
     rw

@@ -21,7 +21,7 @@ returns-2 c =
 returns-3 : tie.Need-returns-3
 returns-3 c =
     let a = c .before .before .before .before .before .before .before .before .before .before .before .before .args in
-    simp (le-ltb partLength (a .self .«data_length») (omega arith), sym (c .before .before .before .before .before .before .before .zero-from .ensures) ∙ not-false _ (c .before .before .before .before .before .before .if2 .left), ← c .before .before .before .before .filled .ensures) (c .before .before .place .ensures)
+    simp (le-ltb partLength (a .self .«data_length») (omega arith), sym (c .before .before .before .before .before .before .before .zero-from .ensures) ∙ not-false _ (c .before .before .before .before .before .before .if2 .left), ← c .before .before .before .before .filled .ensures .shows) (c .before .before .place .ensures)
 
 pub write-spec : {M : Type 1} → statement M
 write-spec =

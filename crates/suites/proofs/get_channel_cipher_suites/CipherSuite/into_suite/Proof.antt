@@ -12,6 +12,7 @@ unfolding suites
 returns c = ap accepted (sym (row-at (c .before .before .args .self .0) (omega arith)))
 
 returns-2 : tie.Need-returns-2
+unfolding suites
 returns-2 c = ap accepted (sym (no-row (c .before .args .self .0) (omega arith)))
 
 pub into-suite-spec : {M : Type 1} → statement M

@@ -20,21 +20,21 @@ returns-3 : tie.Need-returns-3
 returns-3 c =
     let k = c .before .before .before in
     let s = c .before .before .before .before .before .before .before .before .before .args .request .now in
-    simp (eq-eqb (length s) 3 (omega arith), ← k .before .before .new .ensures, k .channel .given .1, ne-eqb (byte 1 s) 0 (λ h. omega arith))
+    simp (eq-eqb (length s) 3 (omega arith), ← k .before .before .new .ensures, k .channel .given .1, le-ltb (byte 1 s) 0 (omega arith), lt-ltb 0 (byte 1 s) (omega arith))
 
 returns-4 : tie.Need-returns-4
 returns-4 c =
     let k = c .before .before .before .before .before in
     let s = c .before .before .before .before .before .before .before .before .before .before .before .args .request .now in
     simp
-    (eq-eqb (length s) 3 (omega arith), ← k .before .before .new .ensures, k .channel .given .1, eq-eqb (byte 1 s) 0 (omega arith), lt-ltb lastIndex (byte 2 s) (omega arith))
+    (eq-eqb (length s) 3 (omega arith), ← k .before .before .new .ensures, k .channel .given .1, le-ltb (byte 1 s) 0 (omega arith), le-ltb 0 (byte 1 s) (omega arith), lt-ltb lastIndex (byte 2 s) (omega arith))
 
 returns-5 : tie.Need-returns-5
 returns-5 c =
     let k = c .before .before .before .before .before in
     let s = c .before .before .before .before .before .before .before .before .before .before .before .args .request .now in
     simp
-    (eq-eqb (length s) 3 (omega arith), ← k .before .before .new .ensures, k .channel .given .1, eq-eqb (byte 1 s) 0 (omega arith), le-ltb lastIndex (byte 2 s) (omega arith))
+    (eq-eqb (length s) 3 (omega arith), ← k .before .before .new .ensures, k .channel .given .1, le-ltb (byte 1 s) 0 (omega arith), le-ltb 0 (byte 1 s) (omega arith), le-ltb lastIndex (byte 2 s) (omega arith))
 
 pub read-spec : {M : Type 1} → statement M
 read-spec =
