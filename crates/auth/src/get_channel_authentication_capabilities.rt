@@ -111,7 +111,7 @@ pub struct CapabilitiesAnswer {
 }
 
 impl ChannelAuthenticationCapabilities {
-    // What the laws ask of a record.
+    // What the machine gives of every record; the laws ask for it.
     fn typed(self)
         ensures { λ _. ⌜ Typed self ⌝ }
     {}

@@ -52,7 +52,7 @@ pub fn shown(name: &[u8]) -> &[u8]
 impl GetSessionChallenge {
     pub const COMMAND: u8 = 0x39;
 
-    // What the laws ask of a command.
+    // What the machine gives of every command; the laws ask for it.
     fn typed(self)
         ensures { λ _. ⌜ TypedCommand self ⌝ }
     {}
@@ -142,7 +142,7 @@ pub struct ChallengeAnswer {
 }
 
 impl SessionChallenge {
-    // What the laws ask of a challenge.
+    // What the machine gives of every challenge; the laws ask for it.
     fn typed(self)
         ensures { λ _. ⌜ Typed self ⌝ }
     {}

@@ -91,7 +91,7 @@ pub enum InfoAnswer {
 }
 
 impl ChannelInfo {
-    // What the laws ask of a record.
+    // What the machine gives of every record; the laws ask for it.
     fn typed(self)
         ensures { λ _. ⌜ Typed self ⌝ }
     {}

@@ -31,7 +31,7 @@ pub struct CommandAnswer {
 impl ActivateSession {
     pub const COMMAND: u8 = 0x3A;
 
-    // What the laws ask of a command.
+    // What the machine gives of every command; the laws ask for it.
     fn typed(self)
         ensures { λ _. ⌜ TypedCommand self ⌝ }
     {}
@@ -108,7 +108,7 @@ pub enum BeginAnswer {
 }
 
 impl BeginSessionInfo {
-    // What the laws ask of a record.
+    // What the machine gives of every record; the laws ask for it.
     fn typed(self)
         ensures { λ _. ⌜ Typed self ⌝ }
     {}

@@ -134,7 +134,7 @@ pub fn filled(bytes: &[u8], data_length: usize) -> &[u8]
 }
 
 impl ChannelCipherSuites {
-    // What the laws ask of a part.
+    // What the machine gives of every part; the laws ask for it.
     fn typed(self)
         ensures { λ _. ⌜ Typed self ⌝ }
     {}

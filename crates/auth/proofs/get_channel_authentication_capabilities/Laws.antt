@@ -16,7 +16,7 @@ use Rattle.auth.specs.declared.AuthType.the-variants.{None, MD2, MD5, Ke
 use Rattle.auth.specs.declared.PrivilegeLevel.{PrivilegeLevel}
 use Rattle.auth.specs.declared.get_channel_authentication_capabilities.ChannelAuthenticationCapabilities.{ChannelAuthenticationCapabilities}
 use Rattle.auth.specs.declared.get_channel_authentication_capabilities.GetChannelAuthenticationCapabilities.{GetChannelAuthenticationCapabilities}
-use Rattle.auth.proofs.Laws.{low-level, nibble-iff, privilege-again, best-none}
+use Rattle.auth.proofs.Laws.{best-none, nibble-iff, privilege-again}
 use Rattle.base.specs.Choice.{if_then_else_}
 use Rattle.base.specs.Connection.{channelOf, channelField}
 use Rattle.base.specs.Field.{Bytes, byte, flag}
@@ -43,7 +43,7 @@ asked n c e = let (p, f) = otherwise 10 (ltb n 0x80) e in (ltb-false n 0x80 p, c
 asks : (n : ℕ) (c : Channel) → channelField c ≡ accepted n → askedChannel (0x80 + n) ≡ accepted c
 asks n c e = let z : 0x80 + n - 0x80 ≡ n = omega arith in simp (le-ltb (0x80 + n) 0x80 (omega arith), z, channel-iff n c .1 e)
 
--- Row 10.
+-- Row 10: exactly what some command writes is read, and every other string of bytes is refused 10.
 pub command-strict : Strict commandOf (λ k s. commandBytes k ≡ accepted s)
 command-strict =
     strict 2 (λ s. askedChannel (byte 0 s) >>= λ c. askedLevel (byte 1 s) >>= λ l. accepted (command c l)) _

@@ -1,5 +1,4 @@
 -- Laws of Get Session Challenge.
-use mathlib.Core.Logic.{_↔_}
 use mathlib.Core.Path.{_≡_, refl, sym, ap}
 use mathlib.Core.Bool.{Bool, true, false}
 use mathlib.Core.List.{List, [], _∷_, _++_, append-nil}
@@ -7,7 +6,7 @@ use mathlib.Core.Option.{some}
 use Prim.Native.Nat.{ℕ, suc, _+_, _≤_, _<_}
 use native.Mathlib.Numerals.{add-one}
 use native.Mathlib.Omega.{arith}
-use borrow.Author.Tests.{eq-eqb, ne-eqb, eqb-true, ltb-false, le-ltb}
+use borrow.Author.Tests.{eq-eqb, ne-eqb, ltb-false, le-ltb}
 use lib.Dec.{eqb, ltb}
 use lib.ListN.{length, getD, take, drop, replicate, length-append, length-drop, length-take, length-replicate, drop-of-length-le}
 use lib.Seq.{take-all, drop-cons}
@@ -15,7 +14,7 @@ use Rattle.base.specs.Choice.{if_then_else_}
 use Rattle.base.specs.Field.{Bytes, byte}
 use Rattle.base.specs.Little.{little, littleBytes}
 use Rattle.base.specs.Named.{named, required}
-use Rattle.base.specs.Outcome.{accepted, refused, _>>=_}
+use Rattle.base.specs.Outcome.{accepted, _>>=_}
 use Rattle.base.specs.Written.{Writes, padded}
 use Rattle.base.specs.declared.written.Written.{Written}
 use Rattle.base.proofs.Named.{required-some}
@@ -82,7 +81,7 @@ shown-short (b ∷ s) = go (eqb b 0) (shown-short s)
 
 -- The command.
 
--- Row 10: the command that is read holds sixteen bytes.
+-- Row 10: exactly what some command writes is read, and every other string of bytes is refused 10. What is read holds sixteen bytes.
 pub command-strict : Strict commandOf (λ k s. TypedCommand k × (commandBytes k ≡ s))
 command-strict =
     strict 17 (λ s. required 10 [] (named authTypes (byte 0 s)) >>= λ kind. accepted (command kind (drop 1 s))) _
@@ -123,6 +122,6 @@ challenge-given s c e =
     let z : challenge (little (byte 0 s ∷ byte 1 s ∷ byte 2 s ∷ byte 3 s ∷ [])) (drop 4 s) ≡ c = cc in
     rw (← z, p) (_, refl)
 
--- Row 9 of the response.
+-- Row 9: a record is refused 9 exactly where no response, a string of bytes, gives it.
 pub challenge-no-form : (c : SessionChallenge) → Typed c → NoForm challengeOf challengeBytes c
 challenge-no-form c h = nine challengeOf challengeBytes c (non-zero-only (c .«temporary_session_id») _) (λ s e. challenge-back c s h e) (λ s b g. challenge-given s c g)

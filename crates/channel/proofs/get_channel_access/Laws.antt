@@ -167,7 +167,7 @@ access-only a = only-steps 9 (modeField (a .«access_mode»)) _ (mode-only (a .�
     limit-only Level.Oem = refl
     limit-only (Level.Unknown n) = only-ranged n 6 15 n 9
 
--- Row 9 of the response.
+-- Row 9: a record is refused 9 exactly where no response, a string of bytes, gives it.
 pub access-no-form : (a : ChannelAccess) → NoForm accessOf accessBytes a
 access-no-form a = nine accessOf accessBytes a (access-only a) (λ s e. (access-bytes a s e, access-back a s e)) (λ s b g. access-given s a g)
 
@@ -188,7 +188,7 @@ type-iff n t = (go (eqb n 0x40) (eqb n 0x80) refl refl, back t)
 type-small : (t : ChannelAccessType) → typeByte t < 256
 type-small = elim [ NonVolatile ↦ lit< tt | Volatile ↦ lit< tt ]
 
--- Row 10.
+-- Row 10: exactly what some command writes is read, and every other string of bytes is refused 10.
 pub command-strict : Strict commandOf (λ k s. commandBytes k ≡ accepted s)
 command-strict =
     strict 2 (λ s. channelOf (byte 0 s) >>= λ c. typeOf (byte 1 s) >>= λ t. accepted (command c t)) _

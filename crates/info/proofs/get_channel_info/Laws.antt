@@ -121,13 +121,13 @@ info-only i =
     λ s. only-steps 9 (within 0 0x3F (i .«active_sessions»)) _ (only-ranged (i .«active_sessions») 0 0x3F (i .«active_sessions») 9)
     λ a. only-steps 9 (within 0 0xFFFFFF (i .«vendor_id»)) _ (only-ranged (i .«vendor_id») 0 0xFFFFFF (i .«vendor_id») 9) λ v. refl
 
--- Row 9 of the response.
+-- Row 9: a record is refused 9 exactly where no response, a string of bytes, gives it.
 pub info-no-form : (i : ChannelInfo) → Typed i → NoForm infoOf infoBytes i
 info-no-form i b = nine infoOf infoBytes i (info-only i) (λ s e. (info-bytes i s b e, info-back i s e)) (λ s. info-given s i)
 
 -- The command.
 
--- Row 10.
+-- Row 10: exactly what some command writes is read, and every other string of bytes is refused 10.
 pub command-strict : Strict commandOf (λ k s. commandBytes k ≡ accepted s)
 command-strict =
     strict 1 (λ s. channelOf (byte 0 s) >>= λ c. accepted (command c)) _

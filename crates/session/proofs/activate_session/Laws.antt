@@ -1,5 +1,4 @@
 -- Laws of Activate Session.
-use mathlib.Core.Logic.{_↔_}
 use mathlib.Core.Path.{_≡_, refl, sym, _∙_, ap}
 use mathlib.Core.List.{List, [], _∷_, _++_}
 use mathlib.Core.Option.{none, some}
@@ -26,7 +25,6 @@ use Rattle.auth.specs.Auth.{authTypeOf, authTypeValue, authTypes, privileges, p
 use Rattle.auth.specs.Session.{nonZero}
 use Rattle.auth.specs.declared.AuthType.{AuthType}
 use Rattle.auth.specs.declared.PrivilegeLevel.{PrivilegeLevel}
-use Rattle.session.specs.declared.activate_session.ActivateSession.{ActivateSession}
 use Rattle.session.specs.declared.activate_session.BeginSessionInfo.{BeginSessionInfo}
 use Rattle.auth.proofs.Laws.{auth-again, auth-number-iff, nibble-iff, privilege-again}
 use Rattle.auth.proofs.Session.{sixteen, non-zero-only}
@@ -59,7 +57,7 @@ parts : (s : List ℕ) → length s ≡ 22 → byte 0 s ∷ byte 1 s ∷ take 16
 parts s h =
     sym (drop-cons s 0 0 (omega arith) ∙ ap (λ (r : List ℕ). byte 0 s ∷ r) (drop-cons s 1 0 (omega arith) ∙ ap (λ (r : List ℕ). byte 1 s ∷ r) (sym (take-append-drop 16 (drop 2 s)) ∙ rw drop-drop)))
 
--- Row 10: the command that is read holds sixteen bytes and a number of four.
+-- Row 10: exactly what some command writes is read, and every other string of bytes is refused 10. What is read holds sixteen bytes and a number of four.
 pub command-strict : Strict commandOf (λ k s. TypedCommand k × (commandBytes k ≡ s))
 command-strict =
     strict 22 (λ s. required 10 [] (named authTypes (byte 0 s)) >>= λ kind. required 10 [] (named privileges (byte 1 s)) >>= λ level. accepted (command kind level (take 16 (drop 2 s)) (little (drop 18 s)))) _
@@ -101,7 +99,7 @@ begin-given s b e =
     let z : little (byte 1 s ∷ byte 2 s ∷ byte 3 s ∷ byte 4 s ∷ []) ≡ b .«session_id» = cc in
     rw (← z, p) (_, refl)
 
--- Row 9 of the response.
+-- Row 9: a record is refused 9 exactly where no response, a string of bytes, gives it.
 pub begin-no-form : (b : BeginSessionInfo) → Typed b → NoForm beginOf beginBytes b
 begin-no-form b h = nine beginOf beginBytes b (non-zero-only (b .«session_id») _) (λ s e. begin-back b s h e) (λ s _ g. begin-given s b g)
 

@@ -165,7 +165,7 @@ given k x m l t ec em el ea =
     let back : accessFields (byte 0 t) (byte 1 t) ≡ k .access = cc (rw (← so-long t 2 long) at (access-back (k .access) t ea)) in
     rw (channel-iff x (k .channel) .1 ec, pair-iff y (k .«mode_pair») .1 (em ∙ rw pm), pair-iff z (k .«limit_pair») .1 (el ∙ rw pl), clear, beside (byte 0 t) (byte 1 t) m l f g, back)
 
--- Row 10.
+-- Row 10: exactly what some command writes is read, and every other string of bytes is refused 10.
 pub command-strict : Strict commandOf (λ k s. commandBytes k ≡ accepted s)
 command-strict =
     strict 3 (λ s. channelOf (byte 0 s) >>= λ c. pairIn (byte 1 s) >>= λ m. pairIn (byte 2 s) >>= λ l. within 0 0 (bits 4 2 (byte 2 s)) >>= λ r. accessOf (drop 1 s) >>= λ a. accepted (command c m l a)) _
@@ -201,7 +201,7 @@ parts-only k =
 command-only : (k : SetChannelAccess) → Only 9 (commandBytes k)
 command-only k = begins-only (k .channel) (λ x. partsBytes k >>= λ p. accepted (x ∷ p)) λ x. only-steps 9 (partsBytes k) _ (parts-only k) λ p. refl
 
--- Row 9, on writing: no request gives the command.
+-- Row 9, on writing: exactly where no request, a string of bytes, gives the command.
 pub command-no-form : (k : SetChannelAccess) → NoForm commandOf commandBytes k
 command-no-form k = nine commandOf commandBytes k (command-only k) (λ s e. (command-strict .bytes s k e, command-back k s e)) (λ s b g. (s, command-iff s k b .0 g))
 

@@ -38,7 +38,7 @@ use Rattle.suites.specs.declared.get_channel_cipher_suites.Row.{Row}
 on-index : (c : Channel) (i : ℕ) {k : GetChannelCipherSuites} → commandOn c i ≡ accepted k → (i ≤ lastIndex) × (command c i ≡ k)
 on-index c i e = let (p, f) = otherwise 7 (ltb lastIndex i) e in (ltb-false lastIndex i p, cc)
 
--- Row 10.
+-- Row 10: exactly what some command writes is read, and every other string of bytes is refused 10.
 pub command-strict : Strict commandOf (λ k s. commandBytes k ≡ accepted s)
 command-strict =
     strict 3 (λ s. channelOf (byte 0 s) >>= λ c. within 0 0 (byte 1 s) >>= λ payload. commandOn c (byte 2 s)) _
@@ -115,7 +115,7 @@ suites-given s c e =
     let z : part s ≡ c = cc in
     rw (← z, p, drop-append-seam s (replicate (16 - length s) 0), zeros-are (16 - length s), take-append-seam s (replicate (16 - length s) 0))
 
--- Row 9 of the response.
+-- Row 9: a record is refused 9 exactly where no response, a string of bytes, gives it.
 pub suites-no-form : (c : ChannelCipherSuites) → Typed c → NoForm partOf suitesBytes c
 suites-no-form c h = nine partOf suitesBytes c (only-else 9 (ltb partLength (c .«data_length»)) _ (go (zeros (drop (c .«data_length») (c .«record_data»))))) (λ s e. suites-back c s h e) (λ s _ g. (s, suites-given s c g))
   where
