@@ -5,7 +5,7 @@ use mathlib.Core.List.{List, [], _∷_}
 use mathlib.Core.Option.{Option}
 use lib.ListN.{length}
 use Rattle.auth.specs.Auth.{privileges, privilegeValue, bestOf}
-use Rattle.base.specs.Choice.{if_then_else_, _<?_, _=?_}
+use Rattle.base.specs.Choice.{if_then_else_, _<?_}
 use Rattle.base.specs.Connection.{channelOf, channelField}
 use Rattle.base.specs.Field.{Array, Bytes, byte, flag, flags}
 use Rattle.base.specs.Named.{named, required}

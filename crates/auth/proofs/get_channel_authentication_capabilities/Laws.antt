@@ -3,21 +3,19 @@ use mathlib.Core.Logic.{_↔_}
 use mathlib.Core.Path.{_≡_, refl, ap, _∙_}
 use mathlib.Core.Bool.{Bool, true, false, not}
 use mathlib.Core.List.{List, [], _∷_}
-use mathlib.Core.Option.{Option, none, some}
+use mathlib.Core.Option.{none}
 use Prim.Native.Nat.{ℕ, _+_, _-_, _≤_}
 use native.Mathlib.Omega.{arith}
 use borrow.Author.Tests.{ltb-false, le-ltb}
 use lib.Dec.{ltb}
 use lib.ListN.{length}
-use Rattle.auth.specs.Auth.{privileges, privilegeOf, privilegeValue}
+use Rattle.auth.specs.Auth.{privileges, privilegeValue}
 use Rattle.auth.specs.GetChannelAuthenticationCapabilities.{Typed, askedChannel, askedLevel, bestAuth, capabilitiesBytes, capabilitiesFrom, capabilitiesOf, command, commandBytes, commandOf, extendedOf}
-use Rattle.auth.specs.declared.AuthType.{AuthType}
 use Rattle.auth.specs.declared.AuthType.the-variants.{None, MD2, MD5, Key}
 use Rattle.auth.specs.declared.PrivilegeLevel.{PrivilegeLevel}
 use Rattle.auth.specs.declared.get_channel_authentication_capabilities.ChannelAuthenticationCapabilities.{ChannelAuthenticationCapabilities}
 use Rattle.auth.specs.declared.get_channel_authentication_capabilities.GetChannelAuthenticationCapabilities.{GetChannelAuthenticationCapabilities}
 use Rattle.auth.proofs.Laws.{best-none, nibble-iff, privilege-again}
-use Rattle.base.specs.Choice.{if_then_else_}
 use Rattle.base.specs.Connection.{channelOf, channelField}
 use Rattle.base.specs.Field.{Bytes, byte, flag}
 use Rattle.base.specs.Named.{named}
@@ -28,7 +26,6 @@ use Rattle.base.proofs.Outcome.{otherwise, steps}
 use Rattle.base.proofs.Rows.{Strict, strict}
 use Rattle.base.proofs.connection.Laws.{channel-iff, channel-small, no-channel-form}
 use Rattle.base.proofs.field.Laws.{flags-read, so-long}
-
 
 -- The command.
 

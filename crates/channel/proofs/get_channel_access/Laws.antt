@@ -14,8 +14,7 @@ use Rattle.base.specs.Choice.{if_then_else_}
 use Rattle.base.specs.Connection.{channelOf, channelField}
 use Rattle.base.specs.Field.{Bytes, byte, bits, raised}
 use Rattle.channel.specs.GetChannelAccess.{accessFields, accessOf, accessBytes, command, commandOf, commandBytes, limits, limitOf, limitField, modes, modeOf, modeField, typeOf, typeByte, limitValue, modeValue}
-use Rattle.base.specs.Outcome.{accepted, refused, _>>=_, Outcome, faultsAs}
-use Rattle.base.specs.declared.connection.Channel.{Channel}
+use Rattle.base.specs.Outcome.{accepted, refused, _>>=_}
 use Rattle.channel.specs.declared.get_channel_access.ChannelAccess.{ChannelAccess}
 use Rattle.channel.specs.declared.get_channel_access.ChannelAccessMode.{ChannelAccessMode}
 use Rattle.channel.specs.declared.get_channel_access.ChannelAccessMode.the-variants as Mode

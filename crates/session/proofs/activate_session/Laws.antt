@@ -6,8 +6,8 @@ use Prim.Native.Nat.{ℕ, _≤_}
 use native.Mathlib.Omega.{arith}
 use borrow.Author.Tests.{eq-eqb, ne-eqb, le-ltb}
 use lib.Dec.{eqb, ltb}
-use lib.ListN.{length, take, drop, replicate, length-drop, length-take, length-replicate, length-append, take-append-drop, getD}
-use lib.Seq.{drop-at, drop-cons, drop-drop, getD-drop, take-at, getD-append-add}
+use lib.ListN.{length, take, drop, replicate, length-drop, length-take, length-replicate, length-append, take-append-drop}
+use lib.Seq.{drop-at, drop-cons, drop-drop, getD-drop, take-at}
 use Rattle.base.specs.Field.{Bytes, bits, byte}
 use Rattle.base.specs.Little.{little, littleBytes}
 use Rattle.base.specs.Named.{named, required}

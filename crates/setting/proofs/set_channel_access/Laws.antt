@@ -15,19 +15,19 @@ use lib.Seq.{take-all}
 use mir.Val.{boolByte}
 use Rattle.base.specs.Connection.{channelOf, channelField}
 use Rattle.base.specs.Field.{byte, bits, flag, within, Bytes}
-use Rattle.base.specs.Outcome.{Outcome, accepted, refused, _>>=_, faultsAs}
+use Rattle.base.specs.Outcome.{Outcome, accepted, refused, _>>=_}
 use Rattle.base.specs.Written.{Writes, written, lengthOf}
 use Rattle.base.specs.declared.refusal.Refusal.{Refusal}
 use Rattle.base.specs.declared.written.Written.the-variants.{Length, Refused}
 use Rattle.base.proofs.Outcome.{apart, steps, Only, only-steps, ranged}
 use Rattle.base.proofs.Rows.{NoForm, nine, Strict, strict}
 use Rattle.base.proofs.connection.Laws.{begins-only, channel-iff, channel-small}
-use Rattle.base.proofs.field.Laws.{below, same, so-long, bit-small}
+use Rattle.base.proofs.field.Laws.{below, same, so-long}
 use Rattle.base.proofs.little.Laws.{a-byte}
 use Rattle.base.proofs.written.Laws.{filled}
 use Rattle.channel.specs.GetChannelAccess.{accessBytes, accessFields, accessOf}
 use Rattle.channel.specs.declared.get_channel_access.ChannelAccess.{ChannelAccess}
-use Rattle.channel.proofs.get_channel_access.Laws.{access-back, access-bytes, access-given, access-only, access-two, limit-given, mode-given, first, limit-back, mode-back}
+use Rattle.channel.proofs.get_channel_access.Laws.{access-back, access-bytes, access-given, access-only, access-two, limit-given, mode-given, first}
 use Rattle.setting.specs.SetChannelAccess.{command, commandBytes, commandOf, pairs, pairOf, pairField, pairIn, partsBytes, pairValue}
 use Rattle.setting.specs.declared.set_channel_access.AccessPair.{AccessPair}
 use Rattle.setting.specs.declared.set_channel_access.AccessPair.the-variants.{Leave, NonVolatile, Volatile, Reserved}
