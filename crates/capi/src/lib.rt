@@ -20,6 +20,7 @@ use channel::get_channel_access::ChannelAccess;
 use collector::Collector;
 use collector::Status;
 use collector::answer_in;
+use collector::answer_lent;
 use collector::list_in;
 use collector::status_in;
 use info::get_channel_info::ChannelInfo;
@@ -110,32 +111,12 @@ pub extern "C" fn ghj_collector_answer(
     verdict_code(answer_in(bytes, marks, index, response))
 }
 
-// A collector after an answer, and the number of what became of it.
-struct Taken {
-    number: u64,
-    collector: Collector,
-}
-
-fn take_answer(collector: Collector, index: u8, response: &[u8]) -> Taken
-    ensures { λ r. ⌜ Takes (taking collector index (now (response .entry))) (r .number) collector (r .collector) ⌝ }
-{
-    let mut bytes = collector.bytes;
-    let mut marks = collector.marks;
-    let verdict = answer_in(&mut bytes, &mut marks, index, response);
-    Taken {
-        number: verdict_code(verdict),
-        collector: Collector { bytes, marks },
-    }
-}
-
 // The same of a collector that is lent whole.
 #[no_mangle]
 pub extern "C" fn ghj_collector_take(collector: &mut Collector, index: u8, response: &[u8]) -> u64
     ensures { λ r. ⌜ Takes (taking (now (collector .entry)) index (now (response .entry))) r (now (collector .entry)) (now (collector .exit)) ⌝ }
 {
-    let taken = take_answer(*collector, index, response);
-    *collector = taken.collector;
-    taken.number
+    verdict_code(answer_lent(collector, index, response))
 }
 
 #[no_mangle]

@@ -7,6 +7,8 @@ use lib.ListN.{length, getD}
 use Rattle.base.specs.Choice.{if_then_else_, _<?_, _=?_}
 use Rattle.base.specs.Outcome.{accepted}
 use Rattle.base.specs.Refusal.{refusal}
+use Rattle.base.specs.declared.verdict.Verdict.{Verdict}
+use Rattle.base.specs.declared.verdict.Verdict.the-variants.{Accepted, Refused}
 use Rattle.collector.specs.Collector.{_or_, lastIndex, partLength, parts, put, taking}
 use Rattle.collector.specs.declared.Collector.{Collector}
 use Rattle.collector.specs.declared.Judgement.{Judgement}
@@ -80,3 +82,9 @@ abbrev pub Judged : Collector → ℕ → List ℕ → Judgement → Type 0
 Judged c i part Store = (taking c i part ≡ accepted (put c i part)) × ((i ≤ lastIndex) × (length part ≤ partLength))
 Judged c i part Keep = taking c i part ≡ accepted c
 Judged c i part (Refuse r) = taking c i part ≡ refusal r
+
+-- what is said of it
+abbrev pub verdictFor : Judgement → Verdict
+verdictFor Store = Accepted
+verdictFor Keep = Accepted
+verdictFor (Refuse r) = Refused r

@@ -7,7 +7,7 @@ ghost use lib.Seq.{paste};
 ghost use Rattle.base.specs.Verdict.{Gives};
 ghost use Rattle.base.specs.Written.{Writes};
 ghost use Rattle.collector.specs.Collector.{capacity, partLength, parts, fresh, held, listOf, saidStatus, standingOf, standsAt, taking};
-ghost use Rattle.collector.specs.Shape.{Judged};
+ghost use Rattle.collector.specs.Shape.{Judged, verdictFor};
 use crate::shape::complete;
 use crate::shape::length_by;
 use crate::shape::lowest_by;
@@ -80,9 +80,9 @@ fn stands_at(bytes: &[u8; Collector::CAPACITY], at: usize, part: &[u8]) -> bool
 }
 
 // Reads only: the arrays of a refused answer are never written.
-fn judge(
-    bytes: &[u8; Collector::CAPACITY],
-    marks: &[u8; Collector::PARTS],
+fn judge<'a>(
+    bytes: &'a [u8; Collector::CAPACITY],
+    marks: &'a [u8; Collector::PARTS],
     index: u8,
     response: &[u8],
 ) -> Judgement
@@ -115,6 +115,16 @@ fn judge(
         return Judgement::Keep;
     }
     Judgement::Refuse(Refusal::Disagrees)
+}
+
+fn verdict_of(judgement: Judgement) -> Verdict
+    ensures { λ r. ⌜ r ≡ verdictFor judgement ⌝ }
+{
+    match judgement {
+        Judgement::Store => Verdict::Accepted,
+        Judgement::Keep => Verdict::Accepted,
+        Judgement::Refuse(refusal) => Verdict::Refused(refusal),
+    }
 }
 
 fn put(bytes: &mut [u8; Collector::CAPACITY], at: usize, part: &[u8])
@@ -208,16 +218,22 @@ impl Collector {
         }
     }
 
+    // The verdict is found before anything is stored: so a collector that is lent whole is copied in and back, and not once more.
     pub fn answer(self, index: u8, response: &[u8]) -> Answered
         ensures { λ r. ⌜ Gives (taking self index (now (response .entry))) self (r .verdict) (r .collector) ⌝ }
     {
-        let mut bytes = self.bytes;
-        let mut marks = self.marks;
-        let verdict = answer_in(&mut bytes, &mut marks, index, response);
-        Answered {
-            verdict,
-            collector: Collector { bytes, marks },
+        let mut collector = self;
+        let judgement = judge(&collector.bytes, &collector.marks, index, response);
+        let verdict = verdict_of(judgement);
+        match judgement {
+            Judgement::Store => {
+                collector.marks[index as usize] = (response.len() + 1) as u8;
+                put(&mut collector.bytes, start(index), response);
+            }
+            Judgement::Keep => {}
+            Judgement::Refuse(_) => {}
         }
+        Answered { verdict, collector }
     }
 
     pub fn status(self) -> Status

@@ -15,7 +15,6 @@ use Rattle.base.specs.Choice.{if_then_else_}
 use Rattle.base.specs.Connection.{channelOf}
 use Rattle.base.specs.Field.{Bytes, bits, byte, flag}
 use Rattle.base.specs.Outcome.{Outcome, accepted, refused, _>>=_, faultsAs}
-use Rattle.base.specs.Verdict.{recordOf}
 use Rattle.base.specs.declared.connection.Channel.{Channel}
 use Rattle.base.proofs.little.Laws.{a-byte, all-bytes, bytes-take}
 use Rattle.channel.specs.GetChannelAccess.{accessFields, accessOf}
@@ -26,8 +25,8 @@ use Rattle.collector.specs.declared.Collector.{Collector}
 use Rattle.collector.proofs.Complete.{lowest-le}
 use Rattle.info.specs.GetChannelInfo.{infoFields, infoOf}
 use Rattle.info.specs.declared.get_channel_info.ChannelInfo.{ChannelInfo}
-use Rattle.lines.specs.Lines.{decimal, digitOf, pairOf, pairsOf, space}
-use Rattle.lines.proofs.Laws.{bytes-at, decimal-digits, decimal-fits, digit-small}
+use Rattle.lines.specs.Lines.{decimal, pairsOf}
+use Rattle.lines.proofs.Laws.{bytes-at, decimal-digits, decimal-fits, pair-small}
 use Rattle.suites.specs.GetChannelCipherSuites.{numbersOf}
 use Rattle.suites.proofs.get_channel_cipher_suites.Records.{five-each, numbered-at}
 use Rattle.texts.specs.Texts.{accessText, authText, infoText, missingText, refusedText, spaced, stateText, suitesText}
@@ -194,20 +193,11 @@ module _ (c : Collector) (t : Typed c) where
 
 -- What pairs say is bytes.
 
-pair-byte : (x y z : ℕ) → recordOf 0 (pairOf x y z) < 256
-pair-byte x y z = go (eqb x space) (digitOf y) (digitOf z) refl refl
-  where
-    go : (b : Bool) (h l : Outcome ℕ) → digitOf y ≡ h → digitOf z ≡ l → recordOf 0 (if b then (h >>= λ h. l >>= λ l. accepted (16 * h + l)) else refused 14 []) < 256
-    go false h l p q = omega arith
-    go true (refused n v) l p q = omega arith
-    go true (accepted h) (refused n v) p q = omega arith
-    go true (accepted h) (accepted l) p q = let a = digit-small y h p in let b = digit-small z l q in omega arith
-
 pairs-bytes : (text bytes : List ℕ) → pairsOf text ≡ accepted bytes → Bytes bytes
 pairs-bytes text bytes e = all-bytes bytes (λ i. go i (ltb i (length bytes)) refl)
   where
     go : (i : ℕ) (x : Bool) → ltb i (length bytes) ≡ x → getD bytes i 0 < 256
-    go i true p = rw (bytes-at text bytes e .1 i (ltb-true i (length bytes) p)) (pair-byte (getD text (3 * i) 0) (getD text (3 * i + 1) 0) (getD text (3 * i + 2) 0))
+    go i true p = pair-small (getD text (3 * i) 0) (getD text (3 * i + 1) 0) (getD text (3 * i + 2) 0) (getD bytes i 0) (bytes-at text bytes e .1 i (ltb-true i (length bytes) p))
     go i false p = let q = List·getD-eq-default bytes 0 (ltb-false i (length bytes) p) in omega arith
 
 -- No answer to a line is longer, whatever the collector of the machine.

@@ -1,10 +1,11 @@
 -- Laws of hex pairs, of decimal digits and of newlines.
-use mathlib.Core.Path.{_≡_, refl, sym, _∙_, ap}
+use mathlib.Core.Path.{_≡_, refl, sym, _∙_, ap, subst}
 use mathlib.Core.Bool.{Bool, true, false}
 use mathlib.Core.List.{List, [], _∷_, _++_, append-assoc}
-use Prim.Native.Nat.{ℕ, zero, suc, _+_, _-_, _*_, _/_, _%_, _≤_, _<_}
+use Prim.Native.Nat.{ℕ, zero, suc, _+_, _-_, _*_, _/_, _%_, _≤_, _<_, max}
 use native.Mathlib.Omega.{arith}
 use native.Mathlib.Numerals.{add-one}
+use borrow.Author.Count.{below-more}
 use borrow.Author.Tests.{ltb-true, ltb-false, eqb-true, eqb-false, lt-ltb, le-ltb, eq-eqb, ne-eqb}
 use lib.Dec.{eqb, ltb}
 use lib.ListN.{length, getD, drop, set, length-append, length-drop, length-set}
@@ -20,74 +21,202 @@ no : {A : Type 0} → false ≡ true → A
 no e = let z : _≡_ {A = ℕ} 0 1 = cc in absurd (omega arith)
 
 -- what a choice by a range accepts
-picked : (b first last v n : ℕ) (other : Outcome ℕ) → (first ≤ b → b ≤ last → v < 16) → (other ≡ accepted n → n < 16)
-    → (if b from first to last then accepted v else other) ≡ accepted n → n < 16
-picked b first last v n other p q = go (ltb b first) (ltb last b) refl refl
+picked : (P : ℕ → Type 0) (b first last v : ℕ) (other : Outcome ℕ) → (first ≤ b → b ≤ last → P v) → ((n : ℕ) → other ≡ accepted n → P n)
+    → (n : ℕ) → (if b from first to last then accepted v else other) ≡ accepted n → P n
+picked P b first last v other p q n = go (ltb b first) (ltb last b) refl refl
   where
-    go : (x y : Bool) → ltb b first ≡ x → ltb last b ≡ y → (if x then other else if y then other else accepted v) ≡ accepted n → n < 16
-    go true y f g e = q e
-    go false true f g e = q e
-    go false false f g e = let z : v ≡ n = cc in let h = p (ltb-false b first f) (ltb-false last b g) in omega arith
+    go : (x y : Bool) → ltb b first ≡ x → ltb last b ≡ y → (if x then other else if y then other else accepted v) ≡ accepted n → P n
+    go true y f g e = q n e
+    go false true f g e = q n e
+    go false false f g e = let z : v ≡ n = cc in subst P z (p (ltb-false b first f) (ltb-false last b g))
 
-pub digit-small : (b n : ℕ) → digitOf b ≡ accepted n → n < 16
-digit-small b n =
-    picked b 0x30 0x39 (b - 0x30) n _ (λ l h. omega arith)
-    (picked b 0x41 0x46 (b - 0x37) n _ (λ l h. omega arith)
-    (picked b 0x61 0x66 (b - 0x57) n _ (λ l h. omega arith) (λ e. absurd (apart e))))
+-- a digit is no space, and its value is below 16 and comes of its byte's two halves
+abbrev pub Digit : ℕ → ℕ → Type 0
+Digit b n = (n < 16) × ((b % 16 + 9 * (b / 64)) % 16 ≡ n) × (b ≡ space → ⊥)
+
+pub digit-is : (b n : ℕ) → digitOf b ≡ accepted n → Digit b n
+digit-is b =
+    picked (Digit b) b 0x30 0x39 (b - 0x30) _ (λ l h. at 0 (b - 0x30) (omega arith) (omega arith) (omega arith) (omega arith) (λ e. omega arith))
+    (picked (Digit b) b 0x41 0x46 (b - 0x37) _ (λ l h. at 1 (b - 0x40) (omega arith) (omega arith) (omega arith) (omega arith) (λ e. omega arith))
+    (picked (Digit b) b 0x61 0x66 (b - 0x57) _ (λ l h. at 1 (b - 0x60) (omega arith) (omega arith) (omega arith) (omega arith) (λ e. omega arith)) (λ n e. absurd (apart e))))
+  where
+    at : (high low : ℕ) {n : ℕ} → b / 64 ≡ high → b % 16 ≡ low → n ≡ low + 9 * high → n < 16 → (b ≡ space → ⊥) → Digit b n
+    at high low p q r s t = (s, rw (p, q) (omega arith), t)
+
+-- a pair's byte is that of two digits
+pub pair-is : (a b c n : ℕ) → pairOf a b c ≡ accepted n → (h : ℕ) × (l : ℕ) × (digitOf b ≡ accepted h) × (digitOf c ≡ accepted l) × (16 * h + l ≡ n)
+pair-is a b c n = go (eqb a space)
+  where
+    go : (x : Bool) → (if x then (digitOf b >>= λ h. digitOf c >>= λ l. accepted (16 * h + l)) else refused 14 []) ≡ accepted n
+        → (h : ℕ) × (l : ℕ) × (digitOf b ≡ accepted h) × (digitOf c ≡ accepted l) × (16 * h + l ≡ n)
+    go true e =
+        let (h, p, f) = steps (digitOf b) (λ h. digitOf c >>= λ l. accepted (16 * h + l)) e in
+        let (l, q, g) = steps (digitOf c) (λ l. accepted (16 * h + l)) f in
+        (h, l, p, q, cc)
+    go false e = absurd (apart e)
+
+pub pair-small : (a b c n : ℕ) → pairOf a b c ≡ accepted n → n < 256
+pair-small a b c n e = let (h, l, p, q, z) = pair-is a b c n e in omega (arith, digit-is b h p, digit-is c l q)
 
 -- Hex pairs.
 
-pub what : {A : Type 0} (o : Outcome A) → isAccepted o ≡ true → (a : A) × (o ≡ accepted a)
-what (accepted a) e = (a, refl)
-what (refused n v) e = no e
+-- 0 of what is accepted
+abbrev flag : Outcome ℕ → ℕ
+flag o = if isAccepted o then 0 else 1
 
-miss : (p : Outcome ℕ) (q : Outcome (List ℕ)) → isAccepted p ≡ false → isAccepted (p >>= λ byte. q >>= λ bytes. accepted (byte ∷ bytes)) ≡ false
-miss (accepted a) q e = no (sym e)
-miss (refused n v) q e = refl
+abbrev pub noSpace : ℕ → ℕ
+noSpace b = if eqb b space then 0 else 1
 
-hit : (p : Outcome ℕ) (q : Outcome (List ℕ)) → isAccepted p ≡ true → isAccepted (p >>= λ byte. q >>= λ bytes. accepted (byte ∷ bytes)) ≡ isAccepted q
-hit (accepted a) (accepted b) e = refl
-hit (accepted a) (refused n v) e = refl
-hit (refused n v) q e = no e
+abbrev pub noDigit : ℕ → ℕ
+noDigit b = flag (digitOf b)
 
-module _ (text : List ℕ) (at : ℕ) (h : at + 2 < length text) where
-  abbrev pair : Outcome ℕ
-  pair = pairOf (getD text at 0) (getD text (at + 1) 0) (getD text (at + 2) 0)
-
-  pub three : drop at text ≡ getD text at 0 ∷ getD text (at + 1) 0 ∷ getD text (at + 2) 0 ∷ drop (at + 3) text
-  three =
-      let p : suc at ≡ at + 1 = omega arith in
-      let q : suc (at + 1) ≡ at + 2 = omega arith in
-      let r : suc (at + 2) ≡ at + 3 = omega arith in
-      let x = drop-cons text at 0 (omega arith) in
-      let y = drop-cons text (at + 1) 0 (omega arith) in
-      let z = drop-cons text (at + 2) 0 h in
-      cc
-
-  pub missed : isAccepted pair ≡ false → isAccepted (pairsOf (drop at text)) ≡ false
-  unfolding pairsOf
-  missed e = rw three (miss pair (pairsOf (drop (at + 3) text)) e)
-
-  pub taken : isAccepted pair ≡ true → isAccepted (pairsOf (drop at text)) ≡ isAccepted (pairsOf (drop (at + 3) text))
-  unfolding pairsOf
-  taken e = rw three (hit pair (pairsOf (drop (at + 3) text)) e)
-
-short : (l : List ℕ) → length l ≤ 2 → isAccepted (pairsOf l) ≡ eqb (length l) 0
-unfolding pairsOf
-short [] h = refl
-short (a ∷ []) h = refl
-short (a ∷ b ∷ []) h = refl
-short (a ∷ b ∷ c ∷ l) h = absurd (omega arith)
-
-pub ending : (text : List ℕ) (at : ℕ) → at ≤ length text → length text - at ≤ 2 → eqb (length text) at ≡ isAccepted (pairsOf (drop at text))
-ending text at l h = let e = length-drop at text in go e (short (drop at text) (omega arith)) (eqb (length text) at) refl
+flag-range : (b first last v : ℕ) (o : Outcome ℕ) → (if b from first to last then 0 else flag o) ≡ flag (if b from first to last then accepted v else o)
+flag-range b first last v o = go (ltb b first) (ltb last b)
   where
-    go : length (drop at text) ≡ length text - at → isAccepted (pairsOf (drop at text)) ≡ eqb (length (drop at text)) 0 → (b : Bool) → eqb (length text) at ≡ b → b ≡ isAccepted (pairsOf (drop at text))
-    go e s true p = let q : length text ≡ at = eqb-true _ _ p in let z : length (drop at text) ≡ 0 = omega arith in sym (s ∙ eq-eqb _ _ z)
-    go e s false p = sym (s ∙ ne-eqb (length (drop at text)) 0 (λ z. eqb-false (length text) at p (omega arith)))
+    go : (x y : Bool) → (if x then flag o else if y then flag o else 0) ≡ flag (if x then o else if y then o else accepted v)
+    go true y = refl
+    go false true = refl
+    go false false = refl
+
+pub digit-by-ranges : (b : ℕ) → (if b from 0x30 to 0x39 then 0 else if b from 0x41 to 0x46 then 0 else if b from 0x61 to 0x66 then 0 else 1) ≡ noDigit b
+digit-by-ranges b =
+    let z = flag-range b 0x61 0x66 (b - 0x57) (refused 14 []) in
+    let y = flag-range b 0x41 0x46 (b - 0x37) (if b from 0x61 to 0x66 then accepted (b - 0x57) else refused 14 []) in
+    rw (z, y) (flag-range b 0x30 0x39 (b - 0x30) _)
+
+-- 0 where the byte at a place of pairs is one that may stand there
+abbrev wants : ℕ → ℕ → ℕ
+wants k b = if eqb (k % 3) 0 then noSpace b else noDigit b
+
+-- what a byte three before asks for
+abbrev pub strays : ℕ → ℕ → ℕ
+strays a b = if eqb a space then noSpace b else noDigit b
+
+follows : (k a b : ℕ) → wants k a ≡ 0 → strays a b ≡ wants (k + 3) b
+follows k a b = let m : (k + 3) % 3 ≡ k % 3 = omega arith in rw m (go (eqb (k % 3) 0) (eqb a space) (digitOf a) refl refl)
+  where
+    go : (x y : Bool) (o : Outcome ℕ) → eqb a space ≡ y → digitOf a ≡ o → (if x then (if y then 0 else 1) else flag o) ≡ 0 → (if y then noSpace b else noDigit b) ≡ (if x then noSpace b else noDigit b)
+    go true true o p q e = refl
+    go true false o p q e = absurd (omega arith)
+    go false y (refused n v) p q e = absurd (omega arith)
+    go false true (accepted n) p q e = absurd (digit-is a n q .2 (eqb-true a space p))
+    go false false (accepted n) p q e = refl
+
+abbrev Right : List ℕ → ℕ → Type 0
+Right text n = (k : ℕ) → k < n → wants k (getD text k 0) ≡ 0
+
+pair-by : (a b c : ℕ) → isAccepted (pairOf a b c) ≡ eqb (max (noSpace a) (max (noDigit b) (noDigit c))) 0
+pair-by a b c = go (eqb a space) (digitOf b) (digitOf c)
+  where
+    go : (t : Bool) (x y : Outcome ℕ) → isAccepted (if t then (x >>= λ h. y >>= λ l. accepted (16 * h + l)) else refused 14 []) ≡ eqb (max (if t then 0 else 1) (max (flag x) (flag y))) 0
+    go true (accepted h) (accepted l) = refl
+    go true (accepted h) (refused n v) = refl
+    go true (refused n v) (accepted l) = refl
+    go true (refused n v) (refused m w) = refl
+    go false (accepted h) (accepted l) = refl
+    go false (accepted h) (refused n v) = refl
+    go false (refused n v) (accepted l) = refl
+    go false (refused n v) (refused m w) = refl
+
+both : (p : Outcome ℕ) (q : Outcome (List ℕ)) → isAccepted (p >>= λ byte. q >>= λ bytes. accepted (byte ∷ bytes)) ≡ (if isAccepted p then isAccepted q else false)
+both (accepted a) (accepted b) = refl
+both (accepted a) (refused n v) = refl
+both (refused n v) q = refl
+
+three : (x y z : ℕ) → max x (max y z) ≡ 0 → (x ≡ 0) × (y ≡ 0) × (z ≡ 0)
+three x y z e = (omega arith, omega arith, omega arith)
+
+none-of : (x y z : ℕ) → x ≡ 0 → y ≡ 0 → z ≡ 0 → max x (max y z) ≡ 0
+none-of x y z p q r = omega arith
+
+-- a place behind three bytes more is asked for the same
+behind : (k : ℕ) → suc (suc (suc k)) % 3 ≡ k % 3
+behind k = omega arith
+
+-- pairs are right at every place
+
+pairs-right : (text : List ℕ) → isAccepted (pairsOf text) ≡ true → (length text % 3 ≡ 0) × Right text (length text)
+unfolding pairsOf
+pairs-right [] e = (refl, λ k h. absurd (omega arith))
+pairs-right (a ∷ []) e = no e
+pairs-right (a ∷ b ∷ []) e = no e
+pairs-right (a ∷ b ∷ c ∷ text) e = go (isAccepted (pairOf a b c)) (isAccepted (pairsOf text)) refl (λ q. pairs-right text q) (sym (both (pairOf a b c) (pairsOf text)) ∙ e)
+  where
+    at : (noSpace a ≡ 0) × (noDigit b ≡ 0) × (noDigit c ≡ 0) → Right text (length text) → Right (a ∷ b ∷ c ∷ text) (suc (suc (suc (length text))))
+    at z r zero h = z .0
+    at z r (suc zero) h = z .1
+    at z r (suc (suc zero)) h = z .2
+    at z r (suc (suc (suc k))) h = rw (behind k) (r k (omega arith))
+
+    go : (x y : Bool) → isAccepted (pairOf a b c) ≡ x → (y ≡ true → (length text % 3 ≡ 0) × Right text (length text)) → (if x then y else false) ≡ true
+        → (suc (suc (suc (length text))) % 3 ≡ 0) × Right (a ∷ b ∷ c ∷ text) (suc (suc (suc (length text))))
+    go true true p q f =
+        let (m, r) = q refl in
+        (behind (length text) ∙ m, at (three (noSpace a) (noDigit b) (noDigit c) (eqb-true _ 0 (sym (pair-by a b c) ∙ p))) r)
+    go true false p q f = no f
+    go false y p q f = no f
+
+-- and what is right at every place is pairs
+
+right-pairs : (text : List ℕ) → length text % 3 ≡ 0 → Right text (length text) → isAccepted (pairsOf text) ≡ true
+unfolding pairsOf
+right-pairs [] m r = refl
+right-pairs (a ∷ []) m r = absurd (omega arith)
+right-pairs (a ∷ b ∷ []) m r = absurd (omega arith)
+right-pairs (a ∷ b ∷ c ∷ text) m r =
+    let p : isAccepted (pairOf a b c) ≡ true = pair-by a b c ∙ eq-eqb _ 0 (none-of (noSpace a) (noDigit b) (noDigit c) (r 0 (omega arith)) (r 1 (omega arith)) (r 2 (omega arith))) in
+    let q = right-pairs text (sym (behind (length text)) ∙ m) (λ k h. rw (behind k) at (r (suc (suc (suc k))) (omega arith))) in
+    both (pairOf a b c) (pairsOf text) ∙ rw p q
+
+-- How far a text was held to be right: 0 so long as it is.
+abbrev pub Held : List ℕ → ℕ → ℕ → Type 0
+Held text i worst = (worst ≡ 0 → Right text i) × (Right text (length text) → worst ≡ 0)
+
+module _ (text : List ℕ) where
+  pub held-first : 3 ≤ length text → Held text 3 (max (noSpace (getD text 0 0)) (max (noDigit (getD text 1 0)) (noDigit (getD text 2 0))))
+  held-first h = (λ e. at (three (noSpace (getD text 0 0)) (noDigit (getD text 1 0)) (noDigit (getD text 2 0)) e), λ r. none-of _ _ _ (r 0 (omega arith)) (r 1 (omega arith)) (r 2 (omega arith)))
+    where
+      at : (noSpace (getD text 0 0) ≡ 0) × (noDigit (getD text 1 0) ≡ 0) × (noDigit (getD text 2 0) ≡ 0) → Right text 3
+      at z zero h = z .0
+      at z (suc zero) h = z .1
+      at z (suc (suc zero)) h = z .2
+      at z (suc (suc (suc k))) h = absurd (omega arith)
+
+  pub held-next : (i worst : ℕ) → 3 ≤ i → i < length text → Held text i worst → Held text (i + 1) (max worst (strays (getD text (i - 3) 0) (getD text i 0)))
+  held-next i worst l h (v, w) = (λ e. let r = v (larger-none worst _ e .0) in below-more _ _ r (sym (same (r (i - 3) (omega arith))) ∙ larger-none worst _ e .1), λ r. larger-of worst _ (w r) (same (r (i - 3) (omega arith)) ∙ r i h))
+    where
+      back : i - 3 + 3 ≡ i
+      back = omega arith
+
+      same : wants (i - 3) (getD text (i - 3) 0) ≡ 0 → strays (getD text (i - 3) 0) (getD text i 0) ≡ wants i (getD text i 0)
+      same e = follows (i - 3) (getD text (i - 3) 0) (getD text i 0) e ∙ ap (λ (k : ℕ). wants k (getD text i 0)) back
+
+      larger-none : (x y : ℕ) → max x y ≡ 0 → (x ≡ 0) × (y ≡ 0)
+      larger-none x y e = (omega arith, omega arith)
+
+      larger-of : (x y : ℕ) → x ≡ 0 → y ≡ 0 → max x y ≡ 0
+      larger-of x y p q = omega arith
+
+  pub held-end : (i worst : ℕ) → i ≡ length text → length text % 3 ≡ 0 → Held text i worst → eqb worst 0 ≡ isAccepted (pairsOf text)
+  held-end i worst e m (v, w) = go (eqb worst 0) (isAccepted (pairsOf text)) refl refl
+    where
+      go : (x y : Bool) → eqb worst 0 ≡ x → isAccepted (pairsOf text) ≡ y → x ≡ y
+      go true y p q = sym (right-pairs text m (rw e at (v (eqb-true worst 0 p)))) ∙ q
+      go false true p q = absurd (eqb-false worst 0 p (w (pairs-right text q .1)))
+      go false false p q = refl
+
+  pub none : length text ≡ 0 → true ≡ isAccepted (pairsOf text)
+  none e = sym (right-pairs text (omega arith) (λ k h. absurd (omega arith)))
+
+  pub uneven : (length text % 3 ≡ 0 → ⊥) → false ≡ isAccepted (pairsOf text)
+  uneven n = go (isAccepted (pairsOf text)) refl
+    where
+      go : (x : Bool) → isAccepted (pairsOf text) ≡ x → false ≡ x
+      go true p = absurd (n (pairs-right text p .0))
+      go false p = refl
 
 pub bytes-at : (text bytes : List ℕ) → pairsOf text ≡ accepted bytes → (length text ≡ 3 * length bytes)
-    × ((i : ℕ) → i < length bytes → getD bytes i 0 ≡ recordOf 0 (pairOf (getD text (3 * i) 0) (getD text (3 * i + 1) 0) (getD text (3 * i + 2) 0)))
+    × ((i : ℕ) → i < length bytes → pairOf (getD text (3 * i) 0) (getD text (3 * i + 1) 0) (getD text (3 * i + 2) 0) ≡ accepted (getD bytes i 0))
 unfolding pairsOf
 bytes-at [] bytes e = let z : bytes ≡ [] = cc in rw z (refl, λ i h. absurd (omega arith))
 bytes-at (a ∷ []) bytes e = absurd (apart e)
@@ -100,9 +229,9 @@ bytes-at (a ∷ b ∷ c ∷ text) bytes e =
     rw z (omega arith, at byte rest p k)
   where
     at : (byte : ℕ) (rest : List ℕ) → pairOf a b c ≡ accepted byte
-        → ((i : ℕ) → i < length rest → getD rest i 0 ≡ recordOf 0 (pairOf (getD text (3 * i) 0) (getD text (3 * i + 1) 0) (getD text (3 * i + 2) 0)))
-        → (i : ℕ) → i < suc (length rest) → getD (byte ∷ rest) i 0 ≡ recordOf 0 (pairOf (getD (a ∷ b ∷ c ∷ text) (3 * i) 0) (getD (a ∷ b ∷ c ∷ text) (3 * i + 1) 0) (getD (a ∷ b ∷ c ∷ text) (3 * i + 2) 0))
-    at byte rest p k zero h = rw p
+        → ((i : ℕ) → i < length rest → pairOf (getD text (3 * i) 0) (getD text (3 * i + 1) 0) (getD text (3 * i + 2) 0) ≡ accepted (getD rest i 0))
+        → (i : ℕ) → i < suc (length rest) → pairOf (getD (a ∷ b ∷ c ∷ text) (3 * i) 0) (getD (a ∷ b ∷ c ∷ text) (3 * i + 1) 0) (getD (a ∷ b ∷ c ∷ text) (3 * i + 2) 0) ≡ accepted (getD (byte ∷ rest) i 0)
+    at byte rest p k zero h = p
     at byte rest p k (suc i) h =
         let x : 3 * suc i ≡ suc (suc (suc (3 * i))) = omega arith in
         let y : 3 * suc i + 1 ≡ suc (suc (suc (3 * i + 1))) = omega arith in
@@ -166,6 +295,26 @@ more-digits : (n : ℕ) → 10 ≤ n → decimal n ≡ decimal (n / 10) ++ (digi
 unfolding digits
 more-digits zero h = absurd (omega arith)
 more-digits (suc n) h = simp (le-ltb (suc n) 10 h) (rw (enough n (suc n / 10) (suc n / 10) (omega arith) (omega arith)))
+
+-- the first ten digits are counted from 0 on
+from-zero : (n : ℕ) → n < 10 → digit n ≡ 0x30 + n
+from-zero zero h = refl
+from-zero (suc zero) h = refl
+from-zero (suc (suc zero)) h = refl
+from-zero (suc (suc (suc zero))) h = refl
+from-zero (suc (suc (suc (suc zero)))) h = refl
+from-zero (suc (suc (suc (suc (suc zero))))) h = refl
+from-zero (suc (suc (suc (suc (suc (suc zero)))))) h = refl
+from-zero (suc (suc (suc (suc (suc (suc (suc zero))))))) h = refl
+from-zero (suc (suc (suc (suc (suc (suc (suc (suc zero)))))))) h = refl
+from-zero (suc (suc (suc (suc (suc (suc (suc (suc (suc zero))))))))) h = refl
+from-zero (suc (suc (suc (suc (suc (suc (suc (suc (suc (suc n)))))))))) h = absurd (omega arith)
+
+pub one-counted : (n : ℕ) → n < 10 → decimal n ≡ (0x30 + n) ∷ []
+one-counted n h = one-digit n h ∙ ap (λ (x : ℕ). x ∷ []) (from-zero n h)
+
+pub two-counted : (n : ℕ) → 10 ≤ n → n < 100 → decimal n ≡ (0x30 + n / 10) ∷ (0x30 + n % 10) ∷ []
+two-counted n p q = more-digits n p ∙ rw (one-digit (n / 10) (omega arith), from-zero (n / 10) (omega arith), from-zero (n % 10) (omega arith))
 
 -- the digits that are still to come
 abbrev pub front : ℕ → List ℕ
@@ -239,7 +388,7 @@ pub decimal-digits : (n : ℕ) → n < 256 → length (decimal n) ≡ (if ltb n 
 decimal-digits n h = go (ltb n 10) (ltb n 100) refl refl
   where
     two : (m : ℕ) → 10 ≤ m → m < 100 → length (decimal m) ≡ 2
-    two m p q = rw (more-digits m p, length-append, one-digit (m / 10) (omega arith))
+    two m p q = rw (two-counted m p q)
 
     go : (x y : Bool) → ltb n 10 ≡ x → ltb n 100 ≡ y → length (decimal n) ≡ (if x then 1 else if y then 2 else 3)
     go true y p q = rw (one-digit n (ltb-true n 10 p))
@@ -251,17 +400,27 @@ decimal-digits n h = go (ltb n 10) (ltb n 100) refl refl
 -- Newlines.
 
 module _ (block : List ℕ) (i : ℕ) (h : i < length block) where
-  pub at-newline : getD block i 0 ≡ newline → lineLength (drop i block) ≡ 0
+  pub at-newline : getD block i 0 ≡ newline → i ≡ newlineFrom block i
   unfolding lineLength
-  at-newline e = rw (drop-cons block i 0 h) (simp (eq-eqb _ _ e))
+  at-newline e = rw (le-ltb (length block) i (omega arith), drop-cons block i 0 h) (simp (eq-eqb _ _ e) (omega arith))
 
-  pub no-newline : (getD block i 0 ≡ newline → ⊥) → lineLength (drop i block) ≡ suc (lineLength (drop (i + 1) block))
+  pub no-newline : (getD block i 0 ≡ newline → ⊥) → newlineFrom block (i + 1) ≡ newlineFrom block i
   unfolding lineLength
-  no-newline e = rw (drop-cons block i 0 h) (simp (ne-eqb _ _ e, add-one i))
+  no-newline e = rw (le-ltb (length block) i (omega arith), le-ltb (length block) (i + 1) (omega arith), drop-cons block i 0 h) (simp (ne-eqb _ _ e, add-one i) (omega arith))
 
-pub no-more : (block : List ℕ) (i : ℕ) → i ≡ length block → lineLength (drop i block) ≡ 0
+pub no-more : (block : List ℕ) (i : ℕ) → i ≡ length block → i ≡ newlineFrom block i
 unfolding lineLength
-no-more block i e = rw (e, drop-length block)
+no-more block i e = rw (le-ltb (length block) i (omega arith), e, drop-length block) (omega arith)
+
+-- a further byte of sixteen
+pub one-more : (block : List ℕ) (at j found x : ℕ) → at + j < length block → x ≡ (if eqb (getD block (at + j) 0) newline then 1 else 0)
+    → (found ≡ 0 → newlineFrom block at ≡ newlineFrom block (at + j)) → max found x ≡ 0 → newlineFrom block at ≡ newlineFrom block (at + (j + 1))
+one-more block at j found x h e before z =
+    let n : at + j + 1 ≡ at + (j + 1) = omega arith in
+    before (omega arith) ∙ sym (no-newline block (at + j) h none) ∙ ap (newlineFrom block) n
+  where
+    none : getD block (at + j) 0 ≡ newline → ⊥
+    none p = let q : x ≡ 1 = e ∙ simp (eq-eqb _ _ p) in omega arith
 
 line-within : (l : List ℕ) → lineLength l ≤ length l
 unfolding lineLength

@@ -1,3 +1,2 @@
 pub mod Laws
-pub mod Said
 pub mod Unique

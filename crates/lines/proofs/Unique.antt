@@ -2,13 +2,6 @@
 use mathlib.Core.Path.{refl}
 use Rattle.base.proofs.Unique.{Unique, both, writer}
 use Rattle.lines.proofs as p
-use Rattle.lines.proofs.Said.{byte-one}
-
-pub digit-value-unique : Unique p.digit_value.Kinds.ps p.digit_value.Kinds.r p.digit_value.Reads.Asked p.digit_value.Reads.Learnt
-digit-value-unique κs a ok z z′ w w′ q q′ = (byte-one z z′ (both q q′), refl)
-
-pub pair-value-unique : Unique p.pair_value.Kinds.ps p.pair_value.Kinds.r p.pair_value.Reads.Asked p.pair_value.Reads.Learnt
-pair-value-unique κs a ok z z′ w w′ q q′ = (byte-one z z′ (both q q′), refl)
 
 pub read-pairs-unique : Unique p.read_pairs.Kinds.ps p.read_pairs.Kinds.r p.read_pairs.Reads.Asked p.read_pairs.Reads.Learnt
 read-pairs-unique κs a ok z z′ w w′ q q′ = writer 1 q q′

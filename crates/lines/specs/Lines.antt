@@ -5,15 +5,8 @@ use lib.ListN.{length, drop}
 use Rattle.base.specs.Choice.{if_then_else_, if_from_to_then_else_, _<?_, _=?_}
 use Rattle.base.specs.Outcome.{Outcome, accepted, refused, _>>=_}
 use Rattle.base.specs.Text.{digit}
-use Rattle.lines.specs.declared.ByteAnswer.{ByteAnswer}
-use Rattle.lines.specs.declared.ByteAnswer.the-variants.{Byte, BadLine}
 
--- each case's outcome: 14 BadLine
-abbrev pub saidByte : ByteAnswer → Outcome ℕ
-saidByte (Byte n) = accepted n
-saidByte BadLine = refused 14 []
-
--- the value of a hexadecimal digit "of either case": 0 to 9, A to F, a to f
+-- the value of a hexadecimal digit "of either case": 0 to 9, A to F, a to f; 14 BadLine
 abbrev pub digitOf : ℕ → Outcome ℕ
 digitOf byte =
     if byte from 0x30 to 0x39 then accepted (byte - 0x30) else

@@ -336,9 +336,11 @@ impl CipherSuite {
     pub fn from_suite(suite: Row) -> SuiteAnswer
         ensures { λ r. ⌜ saidSuite r ≡ accepted (suiteFor suite) ⌝ }
     {
+        // The table is made anew at each use of its name.
+        let suites = SUITES;
         let mut i: usize = 0;
-        while i < SUITES.len() {
-            if equal(SUITES[i], suite) {
+        while i < suites.len() {
+            if equal(suites[i], suite) {
                 return SuiteAnswer::Suite(CipherSuite(i as u8));
             }
             i += 1;

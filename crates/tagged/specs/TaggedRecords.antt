@@ -11,6 +11,8 @@ use Rattle.base.specs.Outcome.{Outcome, accepted, refused, _>>=_}
 use Rattle.tagged.specs.Format.{Suite, authenticationTag, confidentialityTag, fits, integrityTag, numberBits, ownStart, standardStart, suiteBytes, tagged, vendorBytes}
 use Rattle.tagged.specs.declared.tagged_records.CountAnswer.{CountAnswer}
 use Rattle.tagged.specs.declared.tagged_records.CountAnswer.the-variants as CountAnswers
+use Rattle.tagged.specs.declared.tagged_records.EndAnswer.{EndAnswer}
+use Rattle.tagged.specs.declared.tagged_records.EndAnswer.the-variants as EndAnswers
 use Rattle.tagged.specs.declared.tagged_records.Owner.{Owner}
 use Rattle.tagged.specs.declared.tagged_records.Owner.the-variants.{Standard, Vendor}
 use Rattle.tagged.specs.declared.tagged_records.RecordAnswer.{RecordAnswer}
@@ -38,6 +40,11 @@ saidStep (StepAnswers.BadRecord place) = badRecord place
 abbrev pub saidCount : CountAnswer → Outcome ℕ
 saidCount (CountAnswers.Count n) = accepted n
 saidCount (CountAnswers.BadRecord place) = badRecord place
+
+-- each case's outcome
+abbrev pub saidEnd : EndAnswer → Outcome ℕ
+saidEnd (EndAnswers.End end) = accepted end
+saidEnd (EndAnswers.BadRecord place) = badRecord place
 
 -- A record.
 
@@ -97,6 +104,12 @@ startAt list position (some owner) = bodyAt list owner (byte (position + 1) list
 -- the record that begins at a position
 abbrev pub recordAt : List ℕ → ℕ → Outcome TaggedRecord
 recordAt list position = startAt list position (ownerAt list position)
+
+-- where a record ends
+abbrev pub endOf : Outcome TaggedRecord → Outcome ℕ
+endOf o = do
+  r ← o
+  accepted (r .end)
 
 -- a step: the record at a position, none at the end or past it
 abbrev pub strictStepAt : List ℕ → ℕ → Outcome (Option TaggedRecord)

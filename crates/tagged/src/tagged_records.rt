@@ -1,11 +1,15 @@
 // The standard's cipher suite records, read strictly and written: document 02, C-14; IPMI 2.0, Table 22-18.
 ghost use mathlib.Core.Path.{_≡_};
 ghost use mathlib.Core.List.{[], _∷_, _++_};
-ghost use Prim.Native.Nat.{suc, _<_, _≤_};
-ghost use lib.ListN.{take};
-ghost use Rattle.tagged.specs.Format.{allFit, confidentialityTag, integrityTag, ownerFits, startBytes};
-ghost use Rattle.tagged.specs.TaggedRecords.{bodyAt, countOf, entriesOf, entry, entryLength, listingOf, numbersIn, reach, recordAt, retagged, saidCount, saidRecord, saidStep, startLength, strictNumbersOf, strictStepAt, suiteFrom, suiteWritten};
+ghost use Prim.Native.Nat.{suc, _+_, _<_, _≤_};
+ghost use lib.ListN.{length, take};
+ghost use mathlib.Core.Bool.{true};
+ghost use Rattle.tagged.specs.Format.{allFit, confidentialityTag, integrityTag, ownStart, ownerFits, standardStart, startBytes};
+ghost use Rattle.tagged.specs.TaggedRecords.{bodyAt, countOf, endOf, entry, listingOf, numbersIn, reach, recordAt, retagged, saidCount, saidEnd, saidRecord, saidStep, startLength, strictNumbersOf, strictStepAt, suiteFrom, suiteWritten};
+ghost use Rattle.base.specs.Choice.{if_then_else_, _=?_};
+ghost use Rattle.base.specs.Field.{byte};
 ghost use Rattle.base.specs.Outcome.{accepted};
+ghost use Rattle.tagged.specs.declared.tagged_records.TaggedRecord.{TaggedRecord};
 ghost use Rattle.base.specs.Written.{Writes};
 use base::little::bytes3;
 use base::little::number3;
@@ -47,6 +51,12 @@ pub enum CountAnswer {
     BadRecord(usize),
 }
 
+// Where a record ends, or the place as above.
+enum EndAnswer {
+    End(usize),
+    BadRecord(usize),
+}
+
 // The first byte of a standard suite's record, and of a vendor's own.
 const STANDARD: u8 = 0xC0;
 
@@ -56,6 +66,9 @@ const OWN: u8 = 0xC1;
 const STANDARD_START: usize = 2;
 
 const OWN_START: usize = 5;
+
+// A standard suite's record with one byte for each algorithm.
+const PLAIN: usize = STANDARD_START + 3;
 
 // An entry of the listing: the number, the owner, a vendor's three bytes.
 const ENTRY: usize = 5;
@@ -151,6 +164,69 @@ pub fn step_at(list: &[u8], position: usize) -> StepAnswer
     }
 }
 
+// Whether the record there is such a one: what most lists have. Behind it another may begin, or the list ends.
+fn is_plain(list: &[u8], at: usize) -> bool
+    requires { ⌜ at < length (now list) ⌝ }
+    ensures { λ r. ⌜ (r ≡ true → endOf (recordAt (now (list .entry)) at) ≡ accepted (at + 5)) ⌝ }
+{
+    let left = list.len() - at;
+    if left < PLAIN {
+        return false;
+    }
+    if list[at] != STANDARD {
+        return false;
+    }
+    if list[at + 2] / NUMBERS != AUTHENTICATION {
+        return false;
+    }
+    if list[at + 3] / NUMBERS != INTEGRITY {
+        return false;
+    }
+    if list[at + 4] / NUMBERS != CONFIDENTIALITY {
+        return false;
+    }
+    if left == PLAIN {
+        return true;
+    }
+    STANDARD <= list[at + PLAIN]
+}
+
+// The bytes before the authentication byte, 0 where no record begins so.
+fn start_of(first: u8) -> usize
+    ensures { λ r. ⌜ r ≡ (if first =? standardStart then 2 else if first =? ownStart then 5 else 0) ⌝ }
+{
+    if first == STANDARD {
+        return STANDARD_START;
+    }
+    if first == OWN {
+        return OWN_START;
+    }
+    0
+}
+
+// The end of the record that begins at a position. No record is made; one body, so that it is compiled into the loops.
+fn end_at(list: &[u8], position: usize) -> EndAnswer
+    requires { ⌜ position < length (now list) ⌝ }
+    ensures { λ r. ⌜ saidEnd r ≡ endOf (recordAt (now (list .entry)) position) ⌝ }
+{
+    if is_plain(list, position) {
+        return EndAnswer::End(position + PLAIN);
+    }
+    let start = start_of(list[position]);
+    if start == 0 {
+        return EndAnswer::BadRecord(position);
+    }
+    if list.len() - position <= start {
+        return EndAnswer::BadRecord(list.len());
+    }
+    let at = position + start;
+    if list[at] / NUMBERS != AUTHENTICATION {
+        return EndAnswer::BadRecord(at);
+    }
+    let confidentiality = reach(list, INTEGRITY, at + 1);
+    EndAnswer::End(reach(list, CONFIDENTIALITY, confidentiality))
+}
+
 // How many records the list has.
 pub fn count(list: &[u8]) -> CountAnswer
     ensures { λ r. ⌜ saidCount r ≡ countOf (now (list .entry)) ⌝ }
@@ -158,12 +234,12 @@ pub fn count(list: &[u8]) -> CountAnswer
     let mut n: usize = 0;
     let mut at: usize = 0;
     while at < list.len() {
-        match record_at(list, at) {
-            RecordAnswer::Record(record) => {
+        match end_at(list, at) {
+            EndAnswer::End(end) => {
                 n += 1;
-                at = record.end;
+                at = end;
             }
-            RecordAnswer::BadRecord(place) => {
+            EndAnswer::BadRecord(place) => {
                 return CountAnswer::BadRecord(place);
             }
         }
@@ -186,10 +262,20 @@ pub fn entry(suite: TaggedRecord) -> [u8; ENTRY]
     }
 }
 
-// The first `width` bytes of each record's entry. Counted before, so that a refusal is known before a byte is written.
-fn listed(list: &[u8], width: usize, out: &mut [u8]) -> Written
-    requires { ⌜ (0 < width) × (width ≤ entryLength) ⌝ }
-    ensures { λ r. ⌜ Writes (entriesOf width (now (list .entry))) r (now (out .entry)) (now (out .exit)) ⌝ }
+// The same of the record that begins at a place, read where it stands.
+fn entry_at(list: &[u8], at: usize) -> [u8; ENTRY]
+    requires { ⌜ (at + 2 < length (now list)) × ((byte at (now list) ≡ standardStart → ⊥) → at + 5 < length (now list)) ⌝ }
+    ensures { λ bytes. ⌜ ((r : TaggedRecord) → recordAt (now (list .entry)) at ≡ accepted r → bytes ≡ entry r) ⌝ }
+{
+    if list[at] == STANDARD {
+        return [list[at + 1], 0, 0, 0, 0];
+    }
+    [list[at + 1], 1, list[at + 2], list[at + 3], list[at + 4]]
+}
+
+// The suite numbers of a sequence: of all records, in order.
+pub fn suite_numbers(list: &[u8], out: &mut [u8]) -> Written
+    ensures { λ r. ⌜ Writes (strictNumbersOf (now (list .entry))) r (now (out .entry)) (now (out .exit)) ⌝ }
 {
     let n = match count(list) {
         CountAnswer::Count(n) => n,
@@ -197,28 +283,20 @@ fn listed(list: &[u8], width: usize, out: &mut [u8]) -> Written
             return Written::Refused(Refusal::BadRecord(place));
         }
     };
-    if out.len() / width < n {
+    if out.len() < n {
         return Written::Refused(Refusal::NoRoom);
     }
-    let mut from: usize = 0;
-    let mut end: usize = 0;
-    while from < list.len() {
-        let RecordAnswer::Record(record) = record_at(list, from) else {
-            return Written::Length(end);
+    let mut at: usize = 0;
+    let mut i: usize = 0;
+    while at < list.len() {
+        let EndAnswer::End(end) = end_at(list, at) else {
+            return Written::Length(i);
         };
-        let bytes = entry(record);
-        place(&bytes[0..width], &mut out[end..]);
-        end += width;
-        from = record.end;
+        out[i] = list[at + 1];
+        i += 1;
+        at = end;
     }
-    Written::Length(end)
-}
-
-// The suite numbers of a sequence: of all records, in order.
-pub fn suite_numbers(list: &[u8], out: &mut [u8]) -> Written
-    ensures { λ r. ⌜ Writes (strictNumbersOf (now (list .entry))) r (now (out .entry)) (now (out .exit)) ⌝ }
-{
-    listed(list, 1, out)
+    Written::Length(i)
 }
 
 // The listing of a sequence, five bytes a record: its number, 0 for a standard suite or 1 for a vendor's own, and the
@@ -226,7 +304,26 @@ pub fn suite_numbers(list: &[u8], out: &mut [u8]) -> Written
 pub fn suite_listing(list: &[u8], out: &mut [u8]) -> Written
     ensures { λ r. ⌜ Writes (listingOf (now (list .entry))) r (now (out .entry)) (now (out .exit)) ⌝ }
 {
-    listed(list, ENTRY, out)
+    let n = match count(list) {
+        CountAnswer::Count(n) => n,
+        CountAnswer::BadRecord(place) => {
+            return Written::Refused(Refusal::BadRecord(place));
+        }
+    };
+    if out.len() / ENTRY < n {
+        return Written::Refused(Refusal::NoRoom);
+    }
+    let mut at: usize = 0;
+    let mut length: usize = 0;
+    while at < list.len() {
+        let EndAnswer::End(end) = end_at(list, at) else {
+            return Written::Length(length);
+        };
+        place(&entry_at(list, at), &mut out[length..]);
+        length += ENTRY;
+        at = end;
+    }
+    Written::Length(length)
 }
 
 // The numbers of algorithm bytes, or numbers, each under a tag.

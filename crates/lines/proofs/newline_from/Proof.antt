@@ -1,16 +1,16 @@
 use borrow.Author.Needs.{needs}
-use borrow.Author.Tests.{lt-ltb, le-ltb}
-use mathlib.Core.Path.{_≡_, refl}
-use Prim.Native.Nat.{_+_, _-_, _≤_}
+use borrow.Author.Tests.{lt-ltb}
+use mathlib.Core.Path.{_≡_, _∙_}
+use Prim.Native.Nat.{_-_, _≤_}
 use native.Mathlib.Omega.{arith}
-use lib.ListN.{length, drop}
-use Rattle.lines.specs.Lines.{lineLength}
+use lib.ListN.{length}
+use Rattle.lines.specs.Lines.{newlineFrom}
 use Rattle.lines.proofs.Laws.{at-newline, no-newline, no-more}
 use Rattle.lines.proofs.newline_from.Statement.{statement}
 use Rattle.lines.proofs.newline_from.Tie as tie
 
 abbrev Inv-loop : tie.InvT-loop
-Inv-loop block at i₀ i = ((at ≤ i) × (i ≤ length block)) × (i + lineLength (drop i block) ≡ at + lineLength (drop at block))
+Inv-loop block at i₀ i = (i ≤ length block) × (newlineFrom block i ≡ newlineFrom block at)
 
 abbrev μ-loop : tie.MeasureT-loop
 μ-loop block at i₀ i = length block - i
@@ -18,29 +18,23 @@ abbrev μ-loop : tie.MeasureT-loop
 returns : tie.Need-returns Inv-loop μ-loop
 returns c = simp (lt-ltb _ _ (c .if1 .taken))
 
-loop-holds : tie.Need-loop-holds Inv-loop μ-loop
-loop-holds c = ((omega arith, omega arith), refl)
-
 returns-2 : tie.Need-returns-2 Inv-loop μ-loop
 returns-2 c =
     let l = c .before .before .before in
-    let a = l .before .before .args in
-    let e = at-newline (a .block .now) (l .loop .i) (omega arith) (c .if2 .taken) in
-    simp (le-ltb _ _ (l .before .if1 .left)) (omega arith)
+    let a = l .before .before .before .before .args in
+    at-newline (a .block .now) (l .loop .i) (omega arith) (c .if2 .taken) ∙ l .loop .inv .1
 
 loop-again : tie.Need-loop-again Inv-loop μ-loop
 loop-again c =
     let l = c .before .before .before in
-    let a = l .before .before .args in
-    let e = no-newline (a .block .now) (l .loop .i) (omega arith) (c .if2 .left) in
-    ((omega arith, omega arith), omega arith)
+    let a = l .before .before .before .before .args in
+    (omega arith, no-newline (a .block .now) (l .loop .i) (omega arith) (c .if2 .left) ∙ l .loop .inv .1)
 
 returns-3 : tie.Need-returns-3 Inv-loop μ-loop
 returns-3 c =
     let l = c .before in
-    let a = l .before .before .args in
-    let e = no-more (a .block .now) (l .loop .i) (omega arith) in
-    simp (le-ltb _ _ (l .before .if1 .left)) (omega arith)
+    let a = l .before .before .before .before .args in
+    no-more (a .block .now) (l .loop .i) (omega arith) ∙ l .loop .inv .1
 
 pub newline-from-spec : {M : Type 1} → statement M
 newline-from-spec =
@@ -49,7 +43,8 @@ newline-from-spec =
     Inv-loop
     μ-loop
     returns
-    loop-holds
+    (λ c κs. search needs)
+    (search needs)
     (search needs)
     returns-2
     (search needs)

@@ -3,7 +3,7 @@ use borrow.Author.Tests.{not-true, not-false}
 use mathlib.Core.Path.{_≡_, refl, sym, ap, _∙_}
 use Prim.Native.Nat.{_-_, _*_, _≤_}
 use native.Mathlib.Omega.{arith}
-use lib.ListN.{length, length-set, set}
+use lib.ListN.{getD, length, length-set, set}
 use lib.Seq.{paste, paste-zero}
 use Rattle.base.specs.declared.refusal.Refusal.the-variants.{BadLine}
 use Rattle.base.proofs.written.Laws.{fitting, lacking, refusing, stored, whole}
@@ -40,7 +40,7 @@ loop-holds c =
 
 loop-again : tie.Need-loop-again Inv-loop μ-loop
 loop-again c =
-    let p = c .before .before .before .before .before in
+    let p = c .before .before .before .before in
     let k = p .before .before in
     let a = k .before .before .before .before .args in
     let i = p .loop .i in
@@ -48,7 +48,7 @@ loop-again c =
     let e = read s (sym (k .before .are-pairs .ensures) ∙ not-false _ (k .if1 .left)) in
     let b = bytes-at s (bytesOf s) e .1 i (omega arith) in
     let v = p .loop .inv in
-    (((omega arith, omega arith), (omega arith, omega arith)), (simp length-set (v .1 .0), ap (set (p .loop .out) i) (c .pair-byte .ensures ∙ sym b) ∙ stored (a .out .now) (bytesOf s) (p .loop .out) i (v .1 .1) (omega arith) (omega arith)))
+    (((omega arith, omega arith), (omega arith, omega arith)), (simp length-set (v .1 .0), ap (set (p .loop .out) i) (c .joined .ensures (getD s (3 * i) 0) _ b) ∙ stored (a .out .now) (bytesOf s) (p .loop .out) i (v .1 .1) (omega arith) (omega arith)))
 
 returns-3 : tie.Need-returns-3 Inv-loop μ-loop
 returns-3 c =
@@ -71,8 +71,6 @@ read-pairs-spec =
     returns
     returns-2
     loop-holds
-    (search needs)
-    (search needs)
     (search needs)
     (search needs)
     (search needs)

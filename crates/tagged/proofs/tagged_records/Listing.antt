@@ -1,12 +1,13 @@
 -- Laws of the listing: how long it is, and a turn of the loop that writes it.
 use mathlib.Core.Path.{_≡_, refl, sym, _∙_, ap}
 use mathlib.Core.List.{List, [], _∷_, _++_, append-assoc, append-nil, map}
-use Prim.Native.Nat.{ℕ, _+_, _-_, _*_, _/_, _≤_, _<_}
+use Prim.Native.Nat.{ℕ, suc, _+_, _-_, _*_, _/_, _≤_, _<_}
 use native.Mathlib.Nat.{div-lt-iff-lt-mul, le-div-iff-mul-le, suc-mul, zero-mul}
 use native.Mathlib.Omega.{arith}
 use borrow.Rule.Slice.PartMut.{midOf, putMid}
-use lib.ListN.{length, drop, length-append, length-drop, take}
-use lib.Seq.{length-take-le}
+use lib.ListN.{length, drop, length-append, length-drop, set, take}
+use lib.Seq.{drop-cons, length-take-le, take-all}
+use Rattle.base.specs.Field.{byte}
 use Rattle.base.specs.Outcome.{Outcome, accepted, refused, _>>=_}
 use Rattle.base.specs.Written.{Writes}
 use Rattle.base.specs.declared.written.Written.{Written}
@@ -14,11 +15,13 @@ use Rattle.base.specs.declared.written.Written.the-variants.{Length, Refused}
 use Rattle.base.specs.declared.refusal.Refusal.the-variants.{NoRoom}
 use Rattle.base.proofs.Outcome.{apart, steps}
 use Rattle.base.proofs.written.Laws.{fitting, joined, lacking}
-use Rattle.tagged.specs.TaggedRecords.{badRecord, countOf, entries, entriesOf, entry, entryLength, recordAt, recordsOf, strictNumbersOf}
+use Rattle.tagged.specs.TaggedRecords.{badRecord, countOf, endOf, entries, entriesOf, entry, entryLength, recordAt, recordsOf, saidEnd, strictNumbersOf}
+use Rattle.tagged.specs.declared.tagged_records.EndAnswer.{EndAnswer}
+use Rattle.tagged.specs.declared.tagged_records.EndAnswer.the-variants.{End}
 use Rattle.tagged.specs.declared.tagged_records.Owner.{Owner}
 use Rattle.tagged.specs.declared.tagged_records.Owner.the-variants.{Standard, Vendor}
 use Rattle.tagged.specs.declared.tagged_records.TaggedRecord.{TaggedRecord}
-use Rattle.tagged.proofs.tagged_records.Steps.{rest-all, rest-end, rest-read, restOf}
+use Rattle.tagged.proofs.tagged_records.Steps.{ends, numbered, rest-all, rest-end, rest-read, restOf, told-end}
 
 entry-length : (r : TaggedRecord) → length (entry r) ≡ entryLength
 entry-length r = go (r .owner)
@@ -26,6 +29,9 @@ entry-length r = go (r .owner)
     go : (owner : Owner) → length (entry (record { owner = owner; number = r .number; authentication = r .authentication; integrity = r .integrity; confidentiality = r .confidentiality; end = r .end })) ≡ entryLength
     go Standard = refl
     go (Vendor v) = refl
+
+pub whole-entry : (r : TaggedRecord) → take entryLength (entry r) ≡ entry r
+whole-entry r = let e = entry-length r in take-all entryLength (entry r) (omega arith)
 
 module _ (width : ℕ) (w : width ≤ entryLength) where
   part-length : (r : TaggedRecord) → length (take width (entry r)) ≡ width
@@ -159,3 +165,29 @@ module _ {list : List ℕ} {width : ℕ} {buffer out : List ℕ} {at end : ℕ} 
           let second : Writes (accepted (take width (entry r))) x (midOf (length (t .done)) (length out - length (t .done)) out) part = rw (← i, ← b) v in
           turn (t .done ++ take width (entry r)) left f (rw append-assoc a) (rw append-assoc l)
           (rw i (joined (t .done) (take width (entry r)) buffer fits out part first second)) (rw length-append (omega arith))
+
+-- The list of numbers: a turn stores one byte.
+
+set-behind : (done rest : List ℕ) (x : ℕ) → set (done ++ rest) (length done) x ≡ done ++ set rest 0 x
+set-behind [] rest x = refl
+set-behind (d ∷ done) rest x = ap (λ (l : List ℕ). d ∷ l) (set-behind done rest x)
+
+module _ {list buffer out : List ℕ} {at i : ℕ} (t : Turn list 1 buffer out at i) (h : at < length list) {r : TaggedRecord} (e : recordAt list at ≡ accepted r) where
+  pub turn-stored : Turn list 1 buffer (set out i (byte (at + 1) list)) (r .end) (i + 1)
+  turn-stored =
+      let (left, f, a, l) = next t h (omega arith) e in
+      let n = numbered list at e in
+      let room = turn-room t h (omega arith) e in
+      let k = t .end-is in
+      let x : length (t .done ++ (r .number ∷ [])) ≡ suc (length (t .done)) = simp length-append (omega arith) in
+      turn (t .done ++ (r .number ∷ [])) left f (rw append-assoc a) (rw append-assoc l)
+      (rw (x, ← n, t .out-is, k, set-behind (t .done) (drop (length (t .done)) buffer) (r .number), drop-cons buffer (length (t .done)) 0 (omega arith), append-assoc))
+      (rw x (omega arith))
+
+-- a turn by the end that was found
+pub turn-number : {list buffer out : List ℕ} {at i end : ℕ} {a : EndAnswer} → Turn list 1 buffer out at i → at < length list → saidEnd a ≡ endOf (recordAt list at) → a ≡ End end
+    → (at + 3 ≤ end) × (end ≤ length list) × (i + 1 ≤ length buffer) × Turn list 1 buffer (set out i (byte (at + 1) list)) end (i + 1)
+turn-number {list} {buffer} {out} {at} {i} t h e f =
+    let (r, g, z) = told-end e f in
+    let (p, q) = ends list at g in
+    (omega arith, omega arith, turn-room t h (omega arith) g, rw z at (turn-stored t h g))

@@ -15,9 +15,12 @@ use Rattle.base.specs.Choice.{if_then_else_}
 use Rattle.base.specs.Field.{byte}
 use Rattle.base.specs.Little.{little}
 use Rattle.base.specs.Outcome.{Outcome, accepted, refused, _>>=_}
-use Rattle.base.proofs.Outcome.{apart}
+use Rattle.base.proofs.Outcome.{apart, steps}
+use Rattle.base.proofs.little.Laws.{bytes-back}
 use Rattle.tagged.specs.Format.{authenticationTag, confidentialityTag, integrityTag, ownStart, standardStart}
-use Rattle.tagged.specs.TaggedRecords.{badRecord, bodyAt, countOf, numberIn, ownerAt, reach, recordAt, recordWith, recordsFrom, recordsOf, run, saidRecord, startAt, startLength, strictStepAt, tagIn}
+use Rattle.tagged.specs.TaggedRecords.{badRecord, bodyAt, countOf, endOf, entry, numberIn, ownerAt, reach, recordAt, recordWith, recordsFrom, recordsOf, run, saidEnd, saidRecord, startAt, startLength, strictStepAt, tagIn}
+use Rattle.tagged.specs.declared.tagged_records.EndAnswer.{EndAnswer}
+use Rattle.tagged.specs.declared.tagged_records.EndAnswer.the-variants as EndAnswers
 use Rattle.tagged.specs.declared.tagged_records.Owner.{Owner}
 use Rattle.tagged.specs.declared.tagged_records.Owner.the-variants.{Standard, Vendor}
 use Rattle.tagged.specs.declared.tagged_records.RecordAnswer.{RecordAnswer}
@@ -80,6 +83,41 @@ module _ (list : List ℕ) (p : ℕ) where
   pub at-other : (byte p list ≡ standardStart → ⊥) → (byte p list ≡ ownStart → ⊥) → recordAt list p ≡ badRecord p
   at-other n m = rw (ne-eqb (byte p list) standardStart n, ne-eqb (byte p list) ownStart m)
 
+-- what is accepted from an authentication byte on
+body-accepted : (list : List ℕ) (owner : Owner) (number at : ℕ) {r : TaggedRecord} → bodyAt list owner number at ≡ accepted r → (at < length list) × (recordWith list owner number at ≡ r)
+body-accepted list owner number at {r} = go (ltb at (length list)) (eqb (tagIn (byte at list)) authenticationTag) refl
+  where
+    go : (x y : Bool) → ltb at (length list) ≡ x → (if x then (if y then accepted (recordWith list owner number at) else badRecord at) else badRecord (length list)) ≡ accepted r
+        → (at < length list) × (recordWith list owner number at ≡ r)
+    go true true h e = (ltb-true _ _ h, cc)
+    go true false h e = absurd (apart e)
+    go false y h e = absurd (apart e)
+
+-- a record's entry, read where it stands, and the bytes that it is read from
+abbrev pub entryAt : List ℕ → ℕ → List ℕ
+entryAt list at =
+    if eqb (byte at list) standardStart then byte (at + 1) list ∷ 0 ∷ 0 ∷ 0 ∷ 0 ∷ [] else
+    byte (at + 1) list ∷ 1 ∷ byte (at + 2) list ∷ byte (at + 3) list ∷ byte (at + 4) list ∷ []
+
+abbrev pub Entered : List ℕ → ℕ → Type 0
+Entered list at = (at + 2 < length list) × ((byte at list ≡ standardStart → ⊥) → at + 5 < length list)
+
+pub entered : (list : List ℕ) (p : ℕ) {r : TaggedRecord} → ((k : ℕ) → byte k list < 256) → recordAt list p ≡ accepted r → Entered list p × (entryAt list p ≡ entry r)
+entered list p {r} b e = go (eqb (byte p list) standardStart) (eqb (byte p list) ownStart) refl refl
+  where
+    vendor : List ℕ
+    vendor = byte (p + 2) list ∷ byte (p + 3) list ∷ byte (p + 4) list ∷ []
+
+    go : (x y : Bool) → eqb (byte p list) standardStart ≡ x → eqb (byte p list) ownStart ≡ y → Entered list p × (entryAt list p ≡ entry r)
+    go true y f g =
+        let (h, z) = body-accepted list Standard (byte (p + 1) list) (p + 2) (sym (at-standard list p (eqb-true _ _ f)) ∙ e) in
+        ((omega arith, λ n. absurd (n (eqb-true _ _ f))), rw (f, ← z))
+    go false true f g =
+        let (h, z) = body-accepted list (Vendor (little vendor)) (byte (p + 1) list) (p + 5) (sym (at-own list p (eqb-true _ _ g) refl) ∙ e) in
+        let back = bytes-back vendor (b (p + 2), (b (p + 3), (b (p + 4), tt))) in
+        ((omega arith, λ n. omega arith), rw (f, ← z) (ap (λ (l : List ℕ). byte (p + 1) list ∷ 1 ∷ l) (sym back)))
+    go false false f g = absurd (apart (sym (at-other list p (eqb-false _ _ f) (eqb-false _ _ g)) ∙ e))
+
 -- Every case of reading a record: it is whole; no record begins so; the list ends before the authentication byte; that byte has another tag.
 pub data View (list : List ℕ) (p : ℕ) : Outcome TaggedRecord → Type 0 where
   whole : (owner : Owner) → ownerAt list p ≡ some owner → p + startLength owner < length list → tagIn (byte (p + startLength owner) list) ≡ authenticationTag
@@ -133,12 +171,91 @@ module _ (list : List ℕ) (p : ℕ) where
       go o (short owner w h) e = absurd (apart e)
       go o (untagged owner w h t) e = absurd (apart e)
 
+  -- its number is its second byte
+  pub numbered : {r : TaggedRecord} → recordAt list p ≡ accepted r → r .number ≡ byte (p + 1) list
+  numbered {r} e = go (recordAt list p) view e
+    where
+      go : (o : Outcome TaggedRecord) → View list p o → o ≡ accepted r → r .number ≡ byte (p + 1) list
+      go o (whole owner w h t) e = sym (ap (elim [ accepted r ↦ r .number | refused n v ↦ 0 ]) e)
+      go o (unowned w) e = absurd (apart e)
+      go o (short owner w h) e = absurd (apart e)
+      go o (untagged owner w h t) e = absurd (apart e)
+
   -- a step, by the record that is read
   pub step-end : length list ≤ p → accepted none ≡ strictStepAt list p
   step-end h = rw (le-ltb p (length list) h)
 
   pub step-read : {o : Outcome TaggedRecord} → p < length list → recordAt list p ≡ o → (o >>= λ r. accepted (some r)) ≡ strictStepAt list p
   step-read h e = rw (lt-ltb p (length list) h, e)
+
+-- Where a record ends, no record made.
+
+abbrev pub bodyEnd : List ℕ → ℕ → Outcome ℕ
+bodyEnd list at =
+    if ltb at (length list) then
+    (if eqb (tagIn (byte at list)) authenticationTag then accepted (reach confidentialityTag list (reach integrityTag list (at + 1))) else badRecord at) else
+    badRecord (length list)
+
+pub body-ends : (list : List ℕ) (owner : Owner) (number at : ℕ) → bodyEnd list at ≡ endOf (bodyAt list owner number at)
+body-ends list owner number at = go (ltb at (length list)) (eqb (tagIn (byte at list)) authenticationTag)
+  where
+    go : (x y : Bool)
+        → (if x then (if y then accepted (reach confidentialityTag list (reach integrityTag list (at + 1))) else badRecord at) else badRecord (length list))
+        ≡ endOf (if x then (if y then accepted (recordWith list owner number at) else badRecord at) else badRecord (length list))
+    go true true = refl
+    go true false = refl
+    go false y = refl
+
+-- by the bytes before the authentication byte
+module _ (list : List ℕ) (p start : ℕ) (e : start ≡ (if eqb (byte p list) standardStart then 2 else if eqb (byte p list) ownStart then 5 else 0)) where
+  pub started-none : start ≡ 0 → badRecord p ≡ endOf (recordAt list p)
+  started-none z = go (eqb (byte p list) standardStart) (eqb (byte p list) ownStart) refl refl e
+    where
+      go : (x y : Bool) → eqb (byte p list) standardStart ≡ x → eqb (byte p list) ownStart ≡ y → start ≡ (if x then 2 else if y then 5 else 0) → badRecord p ≡ endOf (recordAt list p)
+      go true y f g e = absurd (omega arith)
+      go false true f g e = absurd (omega arith)
+      go false false f g e = ap endOf (sym (at-other list p (eqb-false _ _ f) (eqb-false _ _ g)))
+
+  pub started-some : (start ≡ 0 → ⊥) → bodyEnd list (p + start) ≡ endOf (recordAt list p)
+  started-some z = go (eqb (byte p list) standardStart) (eqb (byte p list) ownStart) refl refl e
+    where
+      go : (x y : Bool) → eqb (byte p list) standardStart ≡ x → eqb (byte p list) ownStart ≡ y → start ≡ (if x then 2 else if y then 5 else 0) → bodyEnd list (p + start) ≡ endOf (recordAt list p)
+      go true y f g e = rw e (body-ends list Standard (byte (p + 1) list) (p + 2) ∙ sym (ap endOf (at-standard list p (eqb-true _ _ f))))
+      go false true f g e = rw e (body-ends list (Vendor (little (byte (p + 2) list ∷ byte (p + 3) list ∷ byte (p + 4) list ∷ []))) (byte (p + 1) list) (p + 5) ∙ sym (ap endOf (at-own list p (eqb-true _ _ g) refl)))
+      go false false f g e = absurd (z e)
+
+pub no : {A : Type 0} → false ≡ true → A
+no e = let z : _≡_ {A = ℕ} 0 1 = cc in absurd (omega arith)
+
+-- a record of five bytes, one for each algorithm
+module _ (list : List ℕ) (p : ℕ) (l : p + 5 ≤ length list) (s : byte p list ≡ standardStart) (a : tagIn (byte (p + 2) list) ≡ authenticationTag)
+    (i : tagIn (byte (p + 3) list) ≡ integrityTag) (c : tagIn (byte (p + 4) list) ≡ confidentialityTag) where
+  plain-until : reach confidentialityTag list (p + 5) ≡ p + 5 → endOf (recordAt list p) ≡ accepted (p + 5)
+  plain-until e =
+      let x : p + 2 + 1 ≡ p + 3 = omega arith in
+      let y : p + 3 + 1 ≡ p + 4 = omega arith in
+      let z : p + 4 + 1 ≡ p + 5 = omega arith in
+      let f : reach integrityTag list (p + 2 + 1) ≡ p + 4 = rw x (reach-on integrityTag list (p + 3) (omega arith) i ∙ rw y (reach-stop integrityTag list (p + 4) (omega arith) (λ h. omega arith))) in
+      let g : reach confidentialityTag list (p + 4) ≡ p + 5 = reach-on confidentialityTag list (p + 4) (omega arith) c ∙ rw z e in
+      ap endOf (at-standard list p s) ∙ sym (body-ends list Standard (byte (p + 1) list) (p + 2)) ∙ rw (lt-ltb (p + 2) (length list) (omega arith), eq-eqb (tagIn (byte (p + 2) list)) authenticationTag a, f, g)
+
+  pub plain-last : length list ≤ p + 5 → endOf (recordAt list p) ≡ accepted (p + 5)
+  plain-last h = plain-until (reach-end confidentialityTag list (p + 5) h)
+
+  pub plain-next : p + 5 < length list → (tagIn (byte (p + 5) list) ≡ confidentialityTag → ⊥) → endOf (recordAt list p) ≡ accepted (p + 5)
+  plain-next h n = plain-until (reach-stop confidentialityTag list (p + 5) h n)
+
+-- what an end tells of the record
+module _ {a : EndAnswer} {o : Outcome TaggedRecord} (e : saidEnd a ≡ endOf o) where
+  pub told-end : {end : ℕ} → a ≡ EndAnswers.End end → (r : TaggedRecord) × (o ≡ accepted r) × (r .end ≡ end)
+  told-end f = let (r, g, h) = steps o (λ r. accepted (r .end)) (sym e ∙ ap saidEnd f) in (r, g, cc)
+
+  pub told-bad : {place : ℕ} → a ≡ EndAnswers.BadRecord place → o ≡ badRecord place
+  told-bad {place} f = go o (sym e ∙ ap saidEnd f)
+    where
+      go : (o : Outcome TaggedRecord) → endOf o ≡ badRecord place → o ≡ badRecord place
+      go (accepted r) e = absurd (apart (sym e))
+      go (refused n v) e = cc
 
 -- what an answer's case tells of the outcome
 pub told : {a b : RecordAnswer} {o : Outcome TaggedRecord} → saidRecord a ≡ o → a ≡ b → o ≡ saidRecord b

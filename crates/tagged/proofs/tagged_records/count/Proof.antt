@@ -1,10 +1,10 @@
 use borrow.Author.Needs.{needs}
-use mathlib.Core.Path.{_≡_, sym, _∙_}
-use Prim.Native.Nat.{_-_, _≤_}
+use mathlib.Core.Path.{_≡_, sym, ap, _∙_}
+use Prim.Native.Nat.{_+_, _-_, _≤_}
 use native.Mathlib.Omega.{arith}
 use lib.ListN.{length}
 use Rattle.tagged.specs.TaggedRecords.{countOf}
-use Rattle.tagged.proofs.tagged_records.Steps.{counted, counted-all, counted-bad, counted-end, counted-on, ends, told}
+use Rattle.tagged.proofs.tagged_records.Steps.{counted, counted-all, counted-bad, counted-end, counted-on, ends, told-bad, told-end}
 use Rattle.tagged.proofs.tagged_records.count.Statement.{statement}
 use Rattle.tagged.proofs.tagged_records.count.Tie as tie
 
@@ -21,7 +21,8 @@ loop-less : tie.Need-loop-less Inv-loop μ-loop
 loop-less c =
     let k = c .before .before .before in
     let l = k .before .before in
-    let h = ends (l .before .before .args .list .now) (l .loop .at) (told (k .record-at .ensures) (c .before .«record» .given .1)) in
+    let (r, e, z) = told-end (k .end-at .ensures) (c .before .end .given .1) in
+    let h = ends (l .before .before .args .list .now) (l .loop .at) e in
     omega arith
 
 loop-again : tie.Need-loop-again Inv-loop μ-loop
@@ -29,15 +30,15 @@ loop-again c =
     let k = c .before .before .before in
     let l = k .before .before in
     let s = l .before .before .args .list .now in
-    let e = told (k .record-at .ensures) (c .before .«record» .given .1) in
+    let (r, e, z) = told-end (k .end-at .ensures) (c .before .end .given .1) in
     let h = ends s (l .loop .at) e in
-    (omega arith, l .loop .inv .1 ∙ counted-on s (l .loop .n) (l .loop .at) (k .before .loop-test .taken) e)
+    (omega arith, l .loop .inv .1 ∙ counted-on s (l .loop .n) (l .loop .at) (k .before .loop-test .taken) e ∙ ap (counted s (l .loop .n + 1)) z)
 
 returns : tie.Need-returns Inv-loop μ-loop
 returns c =
     let k = c .before .before .before in
     let l = k .before .before in
-    let e = told (k .record-at .ensures) (c .before .place .given .1) in
+    let e = told-bad (k .end-at .ensures) (c .before .place .given .1) in
     sym (l .loop .inv .1 ∙ counted-bad (l .before .before .args .list .now) (l .loop .n) (l .loop .at) (k .before .loop-test .taken) e)
 
 returns-2 : tie.Need-returns-2 Inv-loop μ-loop

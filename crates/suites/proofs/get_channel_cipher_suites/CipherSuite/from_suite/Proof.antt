@@ -10,10 +10,10 @@ use Rattle.suites.proofs.get_channel_cipher_suites.CipherSuite.from_sui
 use Rattle.suites.proofs.get_channel_cipher_suites.CipherSuite.from_suite.Tie as tie
 
 abbrev Inv-loop : tie.InvT-loop
-Inv-loop suite i₀ i = (i ≤ 20) × (find suites 0 suite ≡ find (drop i suites) i suite)
+Inv-loop suite table i₀ i = (i ≤ 20) × (find suites 0 suite ≡ find (drop i suites) i suite)
 
 abbrev μ-loop : tie.MeasureT-loop
-μ-loop suite i₀ i = 20 - i
+μ-loop suite table i₀ i = 20 - i
 
 loop-holds : tie.Need-loop-holds Inv-loop μ-loop
 loop-holds c = (search needs, refl)
