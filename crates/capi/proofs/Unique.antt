@@ -24,40 +24,40 @@ pub taker : {taken : Outcome Collector} {n n′ : ℕ} {before : Collector} {byt
     → (n ≡ n′) × (_≡_ {A = List ℕ × (List ℕ × (Unit {0} × (Unit {0} × Unit {0})))} (bytes, (marks, (tt, (tt, tt)))) (bytes′, (marks′, (tt, (tt, tt)))))
 taker q q′ = (both (q .answers) (q′ .answers), ap (λ (c : Collector). (c .bytes, (c .marks, (tt, (tt, tt))))) (both (q .leaves) (q′ .leaves)))
 
-pub ghj-suite-numbers-unique : Unique p.ghj_suite_numbers.Kinds.ps p.ghj_suite_numbers.Kinds.r p.ghj_suite_numbers.Reads.Asked p.ghj_suite_numbers.Reads.Learnt
+pub ghj-suite-numbers-unique : Unique p.list.ghj_suite_numbers.Kinds.ps p.list.ghj_suite_numbers.Kinds.r p.list.ghj_suite_numbers.Reads.Asked p.list.ghj_suite_numbers.Reads.Learnt
 ghj-suite-numbers-unique κs a ok z z′ w w′ q q′ = coder 1 q q′
 
-pub ghj-collector-answer-unique : Unique p.ghj_collector_answer.Kinds.ps p.ghj_collector_answer.Kinds.r p.ghj_collector_answer.Reads.Asked p.ghj_collector_answer.Reads.Learnt
+pub ghj-collector-answer-unique : Unique p.collecting.ghj_collector_answer.Kinds.ps p.collecting.ghj_collector_answer.Kinds.r p.collecting.ghj_collector_answer.Reads.Asked p.collecting.ghj_collector_answer.Reads.Learnt
 ghj-collector-answer-unique κs a ok z z′ w w′ q q′ = taker q q′
 
-pub ghj-collector-status-unique : Unique p.ghj_collector_status.Kinds.ps p.ghj_collector_status.Kinds.r p.ghj_collector_status.Reads.Asked p.ghj_collector_status.Reads.Learnt
+pub ghj-collector-status-unique : Unique p.collecting.ghj_collector_status.Kinds.ps p.collecting.ghj_collector_status.Kinds.r p.collecting.ghj_collector_status.Reads.Asked p.collecting.ghj_collector_status.Reads.Learnt
 ghj-collector-status-unique κs a ok z z′ w w′ q q′ = (both q q′, refl)
 
-pub ghj-collector-list-unique : Unique p.ghj_collector_list.Kinds.ps p.ghj_collector_list.Kinds.r p.ghj_collector_list.Reads.Asked p.ghj_collector_list.Reads.Learnt
+pub ghj-collector-list-unique : Unique p.collecting.ghj_collector_list.Kinds.ps p.collecting.ghj_collector_list.Kinds.r p.collecting.ghj_collector_list.Reads.Asked p.collecting.ghj_collector_list.Reads.Learnt
 ghj-collector-list-unique κs a ok z z′ w w′ q q′ = coder 2 q q′
 
-pub ghj-collector-suites-unique : Unique p.ghj_collector_suites.Kinds.ps p.ghj_collector_suites.Kinds.r p.ghj_collector_suites.Reads.Asked p.ghj_collector_suites.Reads.Learnt
+pub ghj-collector-suites-unique : Unique p.collecting.ghj_collector_suites.Kinds.ps p.collecting.ghj_collector_suites.Kinds.r p.collecting.ghj_collector_suites.Reads.Asked p.collecting.ghj_collector_suites.Reads.Learnt
 ghj-collector-suites-unique κs a ok z z′ w w′ q q′ = coder 2 q q′
 
-pub ghj-collector-take-unique : UniqueWalk p.ghj_collector_take.ended (λ M 𝓤 H A mem run. p.ghj_collector_take.clauses 𝓤 H A mem run)
+pub ghj-collector-take-unique : UniqueWalk p.collecting.ghj_collector_take.ended (λ M 𝓤 H A mem run. p.collecting.ghj_collector_take.clauses 𝓤 H A mem run)
 ghj-collector-take-unique M 𝓤 H A mem run κs a g z z′ w w′ = facts 𝓤 (λ q q′. (both (q .answers) (q′ .answers), ap (λ x. (x, (tt, (tt, tt)))) (both (q .leaves) (q′ .leaves))))
 
-pub ghj-challenge-unique : Unique p.ghj_challenge.Kinds.ps p.ghj_challenge.Kinds.r p.ghj_challenge.Reads.Asked p.ghj_challenge.Reads.Learnt
+pub ghj-challenge-unique : Unique p.responses.ghj_challenge.Kinds.ps p.responses.ghj_challenge.Kinds.r p.responses.ghj_challenge.Reads.Asked p.responses.ghj_challenge.Reads.Learnt
 ghj-challenge-unique κs a ok z z′ w w′ q q′ = coder 1 q q′
 
-pub ghj-activation-unique : Unique p.ghj_activation.Kinds.ps p.ghj_activation.Kinds.r p.ghj_activation.Reads.Asked p.ghj_activation.Reads.Learnt
+pub ghj-activation-unique : Unique p.responses.ghj_activation.Kinds.ps p.responses.ghj_activation.Kinds.r p.responses.ghj_activation.Reads.Asked p.responses.ghj_activation.Reads.Learnt
 ghj-activation-unique κs a ok z z′ w w′ q q′ = coder 1 q q′
 
-pub ghj-suites-unique : Unique p.ghj_suites.Kinds.ps p.ghj_suites.Kinds.r p.ghj_suites.Reads.Asked p.ghj_suites.Reads.Learnt
+pub ghj-suites-unique : Unique p.responses.ghj_suites.Kinds.ps p.responses.ghj_suites.Kinds.r p.responses.ghj_suites.Reads.Asked p.responses.ghj_suites.Reads.Learnt
 ghj-suites-unique κs a ok z z′ w w′ q q′ = coder 1 q q′
 
-pub ghj-access-unique : Unique p.ghj_access.Kinds.ps p.ghj_access.Kinds.r p.ghj_access.Reads.Asked p.ghj_access.Reads.Learnt
+pub ghj-access-unique : Unique p.responses.ghj_access.Kinds.ps p.responses.ghj_access.Kinds.r p.responses.ghj_access.Reads.Asked p.responses.ghj_access.Reads.Learnt
 ghj-access-unique κs a ok z z′ w w′ q q′ = coder 1 q q′
 
-pub ghj-info-unique : Unique p.ghj_info.Kinds.ps p.ghj_info.Kinds.r p.ghj_info.Reads.Asked p.ghj_info.Reads.Learnt
+pub ghj-info-unique : Unique p.responses.ghj_info.Kinds.ps p.responses.ghj_info.Kinds.r p.responses.ghj_info.Reads.Asked p.responses.ghj_info.Reads.Learnt
 ghj-info-unique κs a ok z z′ w w′ q q′ = coder 1 q q′
 
-pub ghj-capabilities-unique : Unique p.ghj_capabilities.Kinds.ps p.ghj_capabilities.Kinds.r p.ghj_capabilities.Reads.Asked p.ghj_capabilities.Reads.Learnt
+pub ghj-capabilities-unique : Unique p.responses.ghj_capabilities.Kinds.ps p.responses.ghj_capabilities.Kinds.r p.responses.ghj_capabilities.Reads.Asked p.responses.ghj_capabilities.Reads.Learnt
 ghj-capabilities-unique κs a ok z z′ w w′ q q′ = coder 1 q q′
 
 -- a message or none
@@ -122,7 +122,7 @@ ghj-suite-algorithms-unique κs a ok z z′ w w′ q q′ = any-coder 1 q q′
 pub ghj-suite-of-unique : Unique p.table.ghj_suite_of.Kinds.ps p.table.ghj_suite_of.Kinds.r p.table.ghj_suite_of.Reads.Asked p.table.ghj_suite_of.Reads.Learnt
 ghj-suite-of-unique κs a ok z z′ w w′ q q′ = (both q q′, refl)
 
-pub ghj-suite-step-unique : Unique p.table.ghj_suite_step.Kinds.ps p.table.ghj_suite_step.Kinds.r p.table.ghj_suite_step.Reads.Asked p.table.ghj_suite_step.Reads.Learnt
+pub ghj-suite-step-unique : Unique p.list.ghj_suite_step.Kinds.ps p.list.ghj_suite_step.Kinds.r p.list.ghj_suite_step.Reads.Asked p.list.ghj_suite_step.Reads.Learnt
 ghj-suite-step-unique κs a ok z z′ w w′ q q′ = stepper q q′
 
 pub ghj-set-access-request-unique : Unique p.settings.ghj_set_access_request.Kinds.ps p.settings.ghj_set_access_request.Kinds.r p.settings.ghj_set_access_request.Reads.Asked p.settings.ghj_set_access_request.Reads.Learnt

@@ -2,9 +2,9 @@
 ghost use Rattle.capi.specs.Number.{Codes, CodesAny};
 ghost use Rattle.capi.specs.Numbered.{activationRequest, capabilitiesRequest, challengeRequest};
 ghost use Rattle.capi.specs.Requests.{accessRequest, infoRequest, suitesRequest};
-use crate::NONE;
-use crate::code;
-use crate::refused;
+use crate::number::NONE;
+use crate::number::code;
+use crate::number::refused;
 use auth::AuthType;
 use auth::AuthTypeAnswer;
 use auth::PrivilegeAnswer;

@@ -1,8 +1,8 @@
 // Set Channel Access: the data of its request, a request read back, and a channel's two settings after the command.
 ghost use Rattle.capi.specs.Number.{Codes};
 ghost use Rattle.capi.specs.Settings.{setAccessApplied, setAccessRecord, setAccessRequest};
-use crate::code;
-use crate::refused;
+use crate::number::code;
+use crate::number::refused;
 use base::connection::Channel;
 use base::refusal::Refusal;
 use base::written::place;

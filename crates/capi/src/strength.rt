@@ -5,7 +5,7 @@ ghost use Rattle.base.specs.Outcome.{accepted};
 ghost use Rattle.capi.specs.Number.{code, orNone};
 ghost use Rattle.capi.specs.Numbered.{compared, orderNumber};
 ghost use Rattle.layouts.specs.Layouts.{isSet};
-use crate::NONE;
+use crate::number::NONE;
 use auth::AuthType;
 use auth::AuthTypeAnswer;
 use auth::Ordering;

@@ -1,18 +1,16 @@
-// The table of suites, and the reading of a list one step at a time.
+// The table of suites.
 ghost use mathlib.Core.Path.{_≡_};
 ghost use Rattle.base.specs.Outcome.{accepted};
 ghost use Rattle.capi.specs.Number.{CodesAny, code, orNone};
-ghost use Rattle.capi.specs.Table.{Steps, algorithmsOf, suiteNumber};
-ghost use Rattle.layouts.specs.Layouts.{isSet};
-ghost use Rattle.suites.specs.GetChannelCipherSuites.{row, saidSuite, stepAt, suiteFor};
-use crate::NONE;
-use crate::code;
+ghost use Rattle.capi.specs.Table.{algorithmsOf, suiteNumber};
+ghost use Rattle.suites.specs.GetChannelCipherSuites.{row, saidSuite, suiteFor};
+use crate::number::NONE;
+use crate::number::code;
 use base::written::place;
 use suites::get_channel_cipher_suites::CipherSuite;
 use suites::get_channel_cipher_suites::Row;
 use suites::get_channel_cipher_suites::RowAnswer;
 use suites::get_channel_cipher_suites::SuiteAnswer;
-use suites::get_channel_cipher_suites::step_at;
 
 // The numbers of the suite's authentication, integrity and confidentiality.
 #[no_mangle]
@@ -28,7 +26,7 @@ pub extern "C" fn ghj_suite_algorithms(suite: u8, out: &mut [u8]) -> u64
     ))
 }
 
-fn suite_number(answer: SuiteAnswer) -> u64
+pub(crate) fn suite_number(answer: SuiteAnswer) -> u64
     ensures { λ r. ⌜ r ≡ code (orNone suiteNumber (saidSuite answer)) ⌝ }
 {
     match answer {
@@ -46,16 +44,4 @@ pub extern "C" fn ghj_suite_of(authentication: u8, integrity: u8, confidentialit
         integrity,
         confidentiality,
     }))
-}
-
-// The step's suite; the reading goes on from what it leaves in position and failed.
-#[no_mangle]
-pub extern "C" fn ghj_suite_step(list: &[u8], position: &mut usize, failed: &mut u8) -> u64
-    ensures { λ r. ⌜ Steps (stepAt (now (list .entry)) (now (position .entry)) (isSet (now (failed .entry)))) r (now (position .exit)) (now (failed .exit)) ⌝ }
-{
-    let step = step_at(list, *position, *failed != 0);
-    let answer = step.answer;
-    *position = step.position;
-    *failed = step.failed as u8;
-    suite_number(answer)
 }
