@@ -1,291 +1,302 @@
-// chandump: a heading, then the answer to each line of standard input.
-ghost use Prim.Native.Nat.{_<_, _≤_};
-ghost use lib.ListN.{length};
+// chandump: a heading, then the answer to each line of standard input. What is answered is worked out by `stream`; here
+// it is read and written. What a read brought is answered before the next read.
+ghost use Prim.Native.Nat.{_+_, _<_, _≤_, _^_};
+ghost use mathlib.Core.Bool.{true};
+ghost use mathlib.Core.Path.{_≡_};
+ghost use lib.ListN.{length, take};
+ghost use Rattle.collector.specs.Collector.{fresh, held};
+ghost use Rattle.collector.specs.Histories.{Typed};
+ghost use Rattle.dump.specs.Input.{Line};
+ghost use Rattle.stream.specs.Stream.{enough, limit};
+ghost use Rattle.chandump.specs.Run.{Answered, Ended, Further, Ran, Ready, Whole, Within};
 use base::written::Written;
-use base::written::place;
 use collector::Collector;
-use dump::dump;
+use libc::EAGAIN;
+use libc::EINTR;
 use libc::STDIN_FILENO;
 use libc::STDOUT_FILENO;
-use lines::newline_from;
+use lines::kept;
+use stream::LINE;
+use stream::begin;
+use stream::feed;
+use stream::finish;
 
-// One more than the longest line that can be read: what is longer is refused whatever its tail holds.
-const LINE: usize = 257;
+// A proved loop has to end, and nothing says that the input does, or that a file that does not block is ever ready: a loop
+// counts its calls down from a number that no run uses up.
+const CALLS: u64 = 0x0100_0000_0000;
 
-// More than an answer and its newline take.
-const ROOM: usize = 1024;
+// What came of a read.
+enum Got {
+    Bytes(usize),
+    Nothing,
+    End,
+    Fault,
+}
 
-// Between two bytes of the input: how much of a line is held, how much of the output waits to be written, whether
-// the input goes on, and whether all that was to be written was.
-struct Turn {
-    used: usize,
+// How much of a text is written, and how many calls are left for the rest: none where it is done, or where there was a
+// fault.
+struct Sent {
+    done: usize,
+    calls: u64,
+}
+
+fn pause() {
+    libc::sched_yield();
+}
+
+// Is the call that failed to be tried again? After a signal at once; where a file that does not block has nothing or no
+// room, after a pause.
+fn again(error: i32) -> bool {
+    if error == EAGAIN {
+        pause();
+        return true;
+    }
+    error == EINTR
+}
+
+fn send(text: &[u8], before: Sent) -> Sent
+    requires { ⌜ (before .done ≤ length (now text)) × (0 < before .calls) ⌝ }
+    ensures { λ r. ⌜ (r .done ≤ length (now (text .entry))) × (r .calls < before .calls) ⌝ }
+{
+    let done = before.done;
+    let part = &text[done..];
+    if part.len() == 0 {
+        return Sent { done, calls: 0 };
+    }
+    let got = libc::write(STDOUT_FILENO, part);
+    if got < 0 {
+        if again(os::errno()) {
+            return Sent {
+                done,
+                calls: before.calls - 1,
+            };
+        }
+        os::fail(b"chandump: standard output");
+        return Sent { done, calls: 0 };
+    }
+    Sent {
+        done: done + io::count(got, part),
+        calls: before.calls - 1,
+    }
+}
+
+// All is written, or the fault is said.
+fn written(text: &[u8]) -> bool {
+    let mut sent = Sent {
+        done: 0,
+        calls: CALLS,
+    };
+    while 0 < sent.calls {
+        sent = send(text, sent);
+    }
+    sent.done == text.len()
+}
+
+fn receive(block: &mut [u8]) -> Got
+    ensures { λ r. ⌜ Within r (length (now (block .entry))) ⌝ }
+{
+    let got = libc::read(STDIN_FILENO, block);
+    if got < 0 {
+        if again(os::errno()) {
+            return Got::Nothing;
+        }
+        os::fail(b"chandump: standard input");
+        return Got::Fault;
+    }
+    let n = io::count(got, block);
+    if n == 0 {
+        return Got::End;
+    }
+    Got::Bytes(n)
+}
+
+// What the machine's arrays are: nothing runs here.
+fn known(bytes: [u8; Collector::CAPACITY], marks: [u8; Collector::PARTS])
+    ensures { λ _. ⌜ Typed (held bytes marks) ⌝ }
+{}
+
+// How many bytes of a block were taken, how many were put, and whether those were written.
+struct Part {
+    taken: usize,
     put: usize,
-    on: bool,
     ok: bool,
 }
 
-fn flushed(t: Turn, out: &[u8]) -> Turn {
-    let put = t.put;
-    let mut ok = t.ok;
-    if ok && put <= out.len() {
-        ok = io::write_all(STDOUT_FILENO, &out[0..put]);
-    }
-    Turn {
-        used: t.used,
-        put: 0,
-        on: t.on,
+// Lines of a block are answered, as many as have room, and the answers written.
+fn some(
+    bytes: &mut [u8; Collector::CAPACITY],
+    marks: &mut [u8; Collector::PARTS],
+    block: &[u8],
+    out: &mut [u8],
+) -> Part
+    requires { ⌜ enough ≤ length (now out) ⌝ }
+    ensures { λ r. ⌜ Answered (now (block .entry)) r (now (out .exit)) (held (now (bytes .entry)) (now (marks .entry))) (held (now (bytes .exit)) (now (marks .exit))) ⌝ }
+{
+    known(*bytes, *marks);
+    let fed = feed(bytes, marks, block, out);
+    let put = fed.put;
+    let ok = written(&out[0..put]);
+    Part {
+        taken: fed.taken,
+        put,
         ok,
     }
 }
 
-fn with_room(t: Turn, out: &[u8]) -> Turn {
-    if out.len() < ROOM {
-        return flushed(t, out);
-    }
-    if out.len() - ROOM < t.put {
-        return flushed(t, out);
-    }
-    t
+// How far a block is answered, whether a line may be left, and whether all that was put was written.
+struct Way {
+    at: usize,
+    on: bool,
+    ok: bool,
 }
 
-// The answer to a line and its newline go to `out`, from `put` on. Each test holds in every run; it is there so that
-// nothing has to be proved of the numbers.
-fn answered(
+fn further(at: usize, part: Part) -> Way
+    requires { ⌜ at + part .taken < 2 ^ 64 ⌝ }
+    ensures { λ r. ⌜ Further at part r ⌝ }
+{
+    if part.taken == 0 {
+        return Way {
+            at,
+            on: false,
+            ok: part.ok,
+        };
+    }
+    Way {
+        at: at + part.taken,
+        on: part.ok,
+        ok: part.ok,
+    }
+}
+
+// All lines of a block.
+fn all(
     bytes: &mut [u8; Collector::CAPACITY],
     marks: &mut [u8; Collector::PARTS],
-    line: &[u8],
-    put: usize,
+    block: &[u8],
     out: &mut [u8],
-) -> usize {
-    if put < out.len() {
-        let room = out.len() - put;
-        let answer = dump(bytes, marks, line, &mut out[put..]);
-        let written = answer.written;
-        match written {
-            Written::Length(n) => {
-                if n < room {
-                    out[put + n] = b'\n';
-                    return put + n + 1;
-                }
-            }
-            Written::Refused(_) => {}
-        }
+) -> Way
+    requires { ⌜ Ran (now block) (held (now bytes) (now marks)) × (enough ≤ length (now out)) ⌝ }
+    ensures { λ r. ⌜ (r .ok ≡ true → Whole (now (block .entry)) (r .at) (held (now (bytes .exit)) (now (marks .exit)))) × (r .at ≤ length (now (block .entry))) ⌝ }
+{
+    let mut way = Way {
+        at: 0,
+        on: true,
+        ok: true,
+    };
+    while way.on {
+        let at = way.at;
+        let part = some(bytes, marks, &block[at..], out);
+        way = further(at, part);
     }
+    way
+}
+
+// Between two reads: how much of an unfinished line stands at the start of the block, and how many calls are left: none at
+// the end of the input, or where there was a fault.
+struct Turn {
+    held: usize,
+    calls: u64,
+}
+
+// What was read up to a place is answered, and what is left of it kept.
+fn answer(
+    bytes: &mut [u8; Collector::CAPACITY],
+    marks: &mut [u8; Collector::PARTS],
+    block: &mut [u8],
+    end: usize,
+    calls: u64,
+    out: &mut [u8],
+) -> Turn
+    requires { ⌜ Ran (take end (now block)) (held (now bytes) (now marks)) × ((end ≤ length (now block)) × ((limit < length (now block)) × (enough ≤ length (now out)))) ⌝ }
+    ensures { λ r. ⌜ (0 < r .calls → Ready (r .held) (now (block .exit)) (now (out .exit)) (held (now (bytes .exit)) (now (marks .exit)))) × (r .calls ≤ calls) ⌝ }
+{
+    let way = all(bytes, marks, &block[0..end], out);
+    let held = kept(block, way.at, end, LINE);
+    if way.ok {
+        return Turn { held, calls };
+    }
+    Turn { held, calls: 0 }
+}
+
+// The end of the input: a last line, which needs no newline.
+fn last(
+    bytes: &mut [u8; Collector::CAPACITY],
+    marks: &mut [u8; Collector::PARTS],
+    rest: &[u8],
+    out: &mut [u8],
+) -> usize
+    requires { ⌜ Ran (now rest) (held (now bytes) (now marks)) × (Line (now rest) × (enough ≤ length (now out))) ⌝ }
+    ensures { λ r. ⌜ Ended r (now (out .exit)) ⌝ }
+{
+    known(*bytes, *marks);
+    let Written::Length(put) = finish(bytes, marks, rest, out) else {
+        return 0;
+    };
+    written(&out[0..put]);
     put
 }
 
-fn ended(
-    bytes: &mut [u8; Collector::CAPACITY],
-    marks: &mut [u8; Collector::PARTS],
-    before: Turn,
-    line: &[u8],
-    out: &mut [u8],
-) -> Turn {
-    let t = with_room(before, out);
-    Turn {
-        used: 0,
-        put: answered(bytes, marks, line, t.put, out),
-        on: t.on,
-        ok: t.ok,
-    }
-}
-
-// A byte of the block goes behind what is held of the line, as long as there is room for it.
-fn kept(block: &[u8], i: usize, used: usize, line: &mut [u8]) -> usize {
-    if i < block.len() {
-        if used < line.len() {
-            line[used] = block[i];
-            return used + 1;
-        }
-    }
-    used
-}
-
-fn held(block: &[u8], at: usize, end: usize, before: usize, line: &mut [u8]) -> usize {
-    let mut used = before;
-    for i in at..end {
-        used = kept(block, i, used, line);
-    }
-    used
-}
-
-// A line of which a part is held.
-fn ended_held(
-    bytes: &mut [u8; Collector::CAPACITY],
-    marks: &mut [u8; Collector::PARTS],
-    t: Turn,
-    line: &[u8],
-    out: &mut [u8],
-) -> Turn {
-    let used = t.used;
-    if used <= line.len() {
-        return ended(bytes, marks, t, &line[0..used], out);
-    }
-    t
-}
-
-// A line that lies whole in the block is answered where it lies.
-fn ended_in(
-    bytes: &mut [u8; Collector::CAPACITY],
-    marks: &mut [u8; Collector::PARTS],
-    t: Turn,
-    block: &[u8],
-    at: usize,
-    end: usize,
-    out: &mut [u8],
-) -> Turn {
-    if at <= end {
-        if end <= block.len() {
-            return ended(bytes, marks, t, &block[at..end], out);
-        }
-    }
-    t
-}
-
-fn line_at(
-    bytes: &mut [u8; Collector::CAPACITY],
-    marks: &mut [u8; Collector::PARTS],
-    t: Turn,
-    block: &[u8],
-    at: usize,
-    end: usize,
-    line: &mut [u8],
-    out: &mut [u8],
-) -> Turn {
-    let whole = end < block.len();
-    if whole {
-        if t.used == 0 {
-            return ended_in(bytes, marks, t, block, at, end, out);
-        }
-    }
-    let h = Turn {
-        used: held(block, at, end, t.used, line),
-        put: t.put,
-        on: t.on,
-        ok: t.ok,
-    };
-    if whole {
-        return ended_held(bytes, marks, h, line, out);
-    }
-    h
-}
-
-// Where the next line ends.
-fn end_of(block: &[u8], at: usize) -> usize
-    requires { ⌜ at ≤ length (now block) ⌝ }
-    ensures { λ r. ⌜ (at ≤ r) × (r ≤ length (now (block .entry))) ⌝ }
-{
-    newline_from(block, at)
-}
-
-fn fed(
-    bytes: &mut [u8; Collector::CAPACITY],
-    marks: &mut [u8; Collector::PARTS],
-    block: &[u8],
-    before: Turn,
-    line: &mut [u8],
-    out: &mut [u8],
-) -> Turn {
-    let mut t = before;
-    let mut at: usize = 0;
-    while at < block.len() {
-        let end = end_of(block, at);
-        t = line_at(bytes, marks, t, block, at, end, line, out);
-        at = end + 1;
-    }
-    t
-}
-
-// One block of the input; at its end the turn says so. A short read is not the end.
+// A read, and all that it brought.
 fn once(
     bytes: &mut [u8; Collector::CAPACITY],
     marks: &mut [u8; Collector::PARTS],
-    t: Turn,
+    before: Turn,
     block: &mut [u8],
-    line: &mut [u8],
     out: &mut [u8],
-) -> Turn {
-    let got = libc::read(STDIN_FILENO, block);
-    let n = io::count(got, block);
-    if n == 0 {
-        return Turn {
-            used: t.used,
-            put: t.put,
-            on: false,
-            ok: t.ok,
-        };
-    }
-    fed(bytes, marks, &block[0..n], t, line, out)
-}
-
-// The budget after a turn: less by one, or none where the input has ended or what was to be written was not.
-fn left(budget: u64, on: bool, ok: bool) -> u64
-    requires { ⌜ 0 < budget ⌝ }
-    ensures { λ r. ⌜ r < budget ⌝ }
+) -> Turn
+    requires { ⌜ Ready (before .held) (now block) (now out) (held (now bytes) (now marks)) × (0 < before .calls) ⌝ }
+    ensures { λ r. ⌜ (0 < r .calls → Ready (r .held) (now (block .exit)) (now (out .exit)) (held (now (bytes .exit)) (now (marks .exit)))) × (r .calls < before .calls) ⌝ }
 {
-    if !on {
-        return 0;
+    let held = before.held;
+    let calls = before.calls - 1;
+    let got = receive(&mut block[held..]);
+    match got {
+        Got::Bytes(n) => answer(bytes, marks, block, held + n, calls, out),
+        Got::Nothing => Turn { held, calls },
+        Got::End => {
+            last(bytes, marks, &block[0..held], out);
+            Turn { held, calls: 0 }
+        }
+        Got::Fault => Turn { held, calls: 0 },
     }
-    if !ok {
-        return 0;
-    }
-    budget - 1
-}
-
-// A last line that no newline ends, and what waits to be written.
-fn finished(
-    bytes: &mut [u8; Collector::CAPACITY],
-    marks: &mut [u8; Collector::PARTS],
-    t: Turn,
-    line: &[u8],
-    out: &mut [u8],
-) {
-    if 0 < t.used {
-        let e = ended_held(bytes, marks, t, line, out);
-        flushed(e, out);
-        return;
-    }
-    flushed(t, out);
 }
 
 // The heading, before anything is read.
-fn begun(out: &mut [u8]) -> Turn {
-    let mut put: usize = 0;
-    match place(b"chandump 1\n", out) {
-        Written::Length(n) => put = n,
-        Written::Refused(_) => {}
+fn begun(out: &mut [u8]) -> u64 {
+    let Written::Length(put) = begin(out) else {
+        return 0;
+    };
+    if written(&out[0..put]) {
+        return CALLS;
     }
-    Turn {
-        used: 0,
-        put,
-        on: true,
-        ok: true,
-    }
+    0
 }
 
-// A proved loop has to end, and nothing says that the input does: the loop counts its blocks down from a number that
-// no run uses up.
 fn run(
     bytes: &mut [u8; Collector::CAPACITY],
     marks: &mut [u8; Collector::PARTS],
     block: &mut [u8],
-    line: &mut [u8],
     out: &mut [u8],
-) {
-    let mut t = begun(out);
-    let mut budget: u64 = 0x0100_0000_0000;
-    while budget > 0 {
-        t = once(bytes, marks, t, block, line, out);
-        budget = left(budget, t.on, t.ok);
+)
+    requires { ⌜ (held (now bytes) (now marks) ≡ fresh) × ((limit < length (now block)) × (enough ≤ length (now out))) ⌝ }
+{
+    let mut turn = Turn {
+        held: 0,
+        calls: begun(out),
+    };
+    while 0 < turn.calls {
+        turn = once(bytes, marks, turn, block, out);
     }
-    finished(bytes, marks, t, line, out);
 }
 
 fn main() {
+    if 1 < os::arg_count() {
+        written(b"chandump\n");
+        return;
+    }
     let mut bytes = [0; Collector::CAPACITY];
     let mut marks = [0; Collector::PARTS];
     let mut block = io::large_buffer();
-    let mut line = [0u8; LINE];
     let mut out = io::large_buffer();
-    run(&mut bytes, &mut marks, &mut block, &mut line, &mut out);
+    run(&mut bytes, &mut marks, &mut block, &mut out);
 }

@@ -8,13 +8,12 @@ use borrow.Author.Tests.{eqb-true}
 use lib.Dec.{eqb}
 use lib.ListN.{length}
 use Rattle.base.specs.Choice.{if_then_else_}
-use Rattle.base.specs.Text.{ascii}
 use Rattle.collector.specs.Collector.{fresh}
 use Rattle.lines.specs.Lines.{lineLength, newline}
-use Rattle.dump.specs.Input.{Line, Lines, answersFrom, joined, lastLine, linesFrom, linesOf, outputOf}
+use Rattle.dump.specs.Input.{Line, Lines, answersFrom, heading, joined, lastLine, linesFrom, linesOf, outputOf}
 
 -- what is known of a line's first byte, and of the others
-longer : (x : ℕ) (line : List ℕ) → Line (x ∷ line) → (eqb x newline ≡ false) × Line line
+pub longer : (x : ℕ) (line : List ℕ) → Line (x ∷ line) → (eqb x newline ≡ false) × Line line
 unfolding lineLength
 longer x line e = go (eqb x newline) refl e
   where
@@ -68,6 +67,6 @@ split (x ∷ input) = go (eqb x newline) refl (split input)
     go false e s = begin (s .lines) (s .last) e (s .ended) (s .rest) (s .all)
 
 -- the text of a whole input: the heading and the answers of its lines, one after the other
-pub whole : (lines : List (List ℕ)) (last : List ℕ) → Lines lines → Line last → outputOf (joined lines ++ last) ≡ ascii "chandump 1" ++ (newline ∷ answersFrom fresh (lines ++ lastLine last))
+pub whole : (lines : List (List ℕ)) (last : List ℕ) → Lines lines → Line last → outputOf (joined lines ++ last) ≡ heading ++ answersFrom fresh (lines ++ lastLine last)
 unfolding outputOf
 whole lines last h o = rw (lines-joined lines last h, last-line last o)

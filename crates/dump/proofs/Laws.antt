@@ -93,7 +93,7 @@ wordless line h = sym (words line false false false false false (short (ascii "i
 
 -- What a writer says of its room.
 
-had-room : {piece b a : List ℕ} {n : ℕ} → Writes (accepted piece) (Length n) b a → ltb (length b) (length piece) ≡ false
+pub had-room : {piece b a : List ℕ} {n : ℕ} → Writes (accepted piece) (Length n) b a → ltb (length b) (length piece) ≡ false
 unfolding written lengthOf over
 had-room {piece} {b} {a} {n} w = go (ltb (length b) (length piece)) (w .answers)
   where
@@ -101,7 +101,7 @@ had-room {piece} {b} {a} {n} w = go (ltb (length b) (length piece)) (w .answers)
     go true e = let z : _≡_ {A = ℕ} 0 1 = cc in absurd (omega arith)
     go false e = refl
 
-no-room : {piece b a : List ℕ} {x : Refusal} → Writes (accepted piece) (Refused x) b a → ltb (length b) (length piece) ≡ true
+pub no-room : {piece b a : List ℕ} {x : Refusal} → Writes (accepted piece) (Refused x) b a → ltb (length b) (length piece) ≡ true
 unfolding written lengthOf over
 no-room {piece} {b} {a} {x} w = go (ltb (length b) (length piece)) (w .answers)
   where

@@ -24,14 +24,27 @@ linesFrom (byte ∷ input) held = if byte =? newline then held ∷ linesFrom inp
 abbrev pub linesOf : List ℕ → List (List ℕ)
 linesOf input = linesFrom input []
 
--- the answers to lines, a newline behind each
+-- the answer to a line, a newline behind it
+abbrev pub answerTo : Collector → List ℕ → List ℕ
+answerTo c line = answering c line .said .text ++ (newline ∷ [])
+
+-- the answers to lines
 unfoldable pub answersFrom : Collector → List (List ℕ) → List ℕ
 answersFrom c [] = []
-answersFrom c (line ∷ lines) = answering c line .said .text ++ (newline ∷ answersFrom (answering c line .collector) lines)
+answersFrom c (line ∷ lines) = answerTo c line ++ answersFrom (answering c line .collector) lines
+
+-- the collector behind lines
+unfoldable pub collectorFrom : Collector → List (List ℕ) → Collector
+collectorFrom c [] = c
+collectorFrom c (line ∷ lines) = collectorFrom (answering c line .collector) lines
+
+-- the heading's line
+abbrev pub heading : List ℕ
+heading = ascii "chandump 1" ++ (newline ∷ [])
 
 -- the heading, then the answers
 unfoldable pub outputOf : List ℕ → List ℕ
-outputOf input = ascii "chandump 1" ++ (newline ∷ answersFrom fresh (linesOf input))
+outputOf input = heading ++ answersFrom fresh (linesOf input)
 
 -- a line has no newline in it
 abbrev pub Line : List ℕ → Type 0

@@ -35,7 +35,7 @@ use texts::refused_text;
 use texts::suites_text;
 
 // A line is at most so long.
-const LONGEST: usize = 256;
+pub const LONGEST: usize = 256;
 
 const LETTERS: usize = 3;
 

@@ -1,21 +1,22 @@
--- Laws of hex pairs, of decimal digits and of newlines.
+-- Laws of hex pairs, of decimal digits, of newlines and of what is kept of a block.
 use mathlib.Core.Path.{_≡_, refl, sym, _∙_, ap, subst}
 use mathlib.Core.Bool.{Bool, true, false}
 use mathlib.Core.List.{List, [], _∷_, _++_, append-assoc}
-use Prim.Native.Nat.{ℕ, zero, suc, _+_, _-_, _*_, _/_, _%_, _≤_, _<_, max}
+use Prim.Native.Nat.{ℕ, zero, suc, _+_, _-_, _*_, _/_, _%_, _≤_, _<_, max, min}
 use native.Mathlib.Omega.{arith}
 use native.Mathlib.Numerals.{add-one}
 use borrow.Author.Count.{below-more}
 use borrow.Author.Tests.{ltb-true, ltb-false, eqb-true, eqb-false, lt-ltb, le-ltb, eq-eqb, ne-eqb}
 use lib.Dec.{eqb, ltb}
-use lib.ListN.{length, getD, drop, set, length-append, length-drop, length-set}
-use lib.Seq.{drop-cons, drop-length, getD-set-same, drop-set-lt}
+use lib.ListN.{length, getD, take, drop, set, length-append, length-take, length-drop, length-set}
+use lib.Seq.{paste, drop-cons, drop-length, getD-set-same, drop-set-lt, getD-append-add, getD-drop, length-take-le, take-all, take-take}
 use Rattle.base.specs.Choice.{if_then_else_, if_from_to_then_else_}
 use Rattle.base.specs.Outcome.{Outcome, accepted, refused, _>>=_, isAccepted}
 use Rattle.base.specs.Text.{digit}
 use Rattle.base.specs.Verdict.{recordOf}
 use Rattle.base.proofs.Outcome.{apart, steps, Only, only-steps, only-refused}
-use Rattle.lines.specs.Lines.{decimal, digitOf, digits, lineLength, newline, newlineFrom, pairOf, pairsOf, space}
+use Rattle.base.proofs.written.Laws.{stored}
+use Rattle.lines.specs.Lines.{Keeps, between, decimal, digitOf, digits, lineLength, newline, newlineFrom, pairOf, pairsOf, space}
 
 no : {A : Type 0} → false ≡ true → A
 no e = let z : _≡_ {A = ℕ} 0 1 = cc in absurd (omega arith)
@@ -436,3 +437,56 @@ newline-within block at h =
     let w = line-within (drop at block) in
     let d = length-drop at block in
     rw (le-ltb (length block) at h) (omega arith, omega arith)
+
+-- What is kept of a block.
+
+pub spanned : (length at end most least r : ℕ) → least ≡ min end length → at ≤ least → r ≡ min most (least - at) → r ≡ min most (min (end - at) (length - at))
+spanned length at end most least r e h f =
+    let z : min (end - at) (length - at) ≡ least - at = omega arith in
+    rw (z, f)
+
+-- a byte that is still to be moved is as it was
+module _ (d out : List ℕ) (at i : ℕ) (e : out ≡ paste d 0 (drop at d) i) (h : at + i < length d) where
+  to-move : getD out (at + i) 0 ≡ getD (drop at d) i 0
+  to-move =
+      let l = length-drop at d in
+      let k : length (take i (drop at d)) ≡ i = length-take-le i (drop at d) (omega arith) in
+      let z : at + i ≡ length (take i (drop at d)) + at = omega arith in
+      let y : 0 + i + at ≡ at + i = omega arith in
+      rw (e, z, getD-append-add (take i (drop at d)) (drop (0 + i) d) at 0, getD-drop (0 + i) d at 0, getD-drop at d i 0, y)
+
+  pub moved : set out i (getD out (at + i) 0) ≡ paste d 0 (drop at d) (i + 1)
+  moved = let l = length-drop at d in rw to-move (stored d (drop at d) out i e (omega arith) (omega arith))
+
+take-both : (l : List ℕ) (a b n : ℕ) → n ≡ min a (min b (length l)) → take n l ≡ take a (take b l)
+take-both l a b n e = go (ltb b (length l)) (ltb a b) (ltb a (length l)) refl refl refl
+  where
+    go : (x y z : Bool) → ltb b (length l) ≡ x → ltb a b ≡ y → ltb a (length l) ≡ z → take n l ≡ take a (take b l)
+    go true true z p q r =
+        let h = ltb-true b (length l) p in
+        let k = ltb-true a b q in
+        let m : n ≡ a = omega arith in
+        rw (m, take-take a b l (omega arith))
+    go true false z p q r =
+        let h = ltb-true b (length l) p in
+        let k = ltb-false a b q in
+        let m : n ≡ b = omega arith in
+        let t = length-take b l in
+        rw (m, take-all a (take b l) (omega arith))
+    go false y true p q r =
+        let h = ltb-false b (length l) p in
+        let k = ltb-true a (length l) r in
+        let m : n ≡ a = omega arith in
+        rw (m, take-all b l h)
+    go false y false p q r =
+        let h = ltb-false b (length l) p in
+        let k = ltb-false a (length l) r in
+        rw (take-all b l h, take-all a l k, take-all n l (omega arith))
+
+pub kept-whole : (d out : List ℕ) (at end most n i : ℕ) → out ≡ paste d 0 (drop at d) i → i ≡ n → n ≡ min most (min (end - at) (length d - at)) → Keeps (take most (between at end d)) n d out
+kept-whole d out at end most n i e f g =
+    let l = length-drop at d in
+    let t = take-both (drop at d) most (end - at) n (omega arith) in
+    let k : length (take n (drop at d)) ≡ n = length-take-le n (drop at d) (omega arith) in
+    let z : 0 + n ≡ n = omega arith in
+    rw (← t) (record { count = sym k; leaves = rw (k, e, f, z) })

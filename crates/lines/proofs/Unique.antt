@@ -1,5 +1,7 @@
 -- Any two outcomes that a public function's promise allows at the same arguments coincide.
-use mathlib.Core.Path.{refl}
+use mathlib.Core.Path.{refl, ap}
+use mathlib.Core.List.{List}
+use Prim.Native.Nat.{ℕ}
 use Rattle.base.proofs.Unique.{Unique, both, writer}
 use Rattle.lines.proofs as p
 
@@ -14,3 +16,6 @@ decimal-unique κs a ok z z′ w w′ q q′ = writer 1 q q′
 
 pub newline-from-unique : Unique p.newline_from.Kinds.ps p.newline_from.Kinds.r p.newline_from.Reads.Asked p.newline_from.Reads.Learnt
 newline-from-unique κs a ok z z′ w w′ q q′ = (both q q′, refl)
+
+pub kept-unique : Unique p.kept.Kinds.ps p.kept.Kinds.r p.kept.Reads.Asked p.kept.Reads.Learnt
+kept-unique κs a ok z z′ w w′ q q′ = (both (q .count) (q′ .count), ap (λ (x : List ℕ). (x, (tt, (tt, (tt, tt))))) (both (q .leaves) (q′ .leaves)))

@@ -1,7 +1,8 @@
 -- What stands in a line: hex pairs, numbers; where a line ends. Document 01, "chandump".
 use Prim.Native.Nat.{ℕ, zero, suc, _+_, _-_, _*_, _/_, _%_}
 use mathlib.Core.List.{List, [], _∷_, _++_}
-use lib.ListN.{length, drop}
+use mathlib.Core.Path.{_≡_}
+use lib.ListN.{length, take, drop}
 use Rattle.base.specs.Choice.{if_then_else_, if_from_to_then_else_, _<?_, _=?_}
 use Rattle.base.specs.Outcome.{Outcome, accepted, refused, _>>=_}
 use Rattle.base.specs.Text.{digit}
@@ -57,3 +58,12 @@ lineLength (byte ∷ rest) = if byte =? newline then 0 else suc (lineLength rest
 -- where the next newline stands from a place on, or the end
 abbrev pub newlineFrom : List ℕ → ℕ → ℕ
 newlineFrom block at = if length block <? at then length block else at + lineLength (drop at block)
+
+-- what a block has from a place up to another
+abbrev pub between : ℕ → ℕ → List ℕ → List ℕ
+between at end block = take (end - at) (drop at block)
+
+-- The promise of what moves bytes of a block to its start: how many they are, and the block behind it.
+pub record Keeps (bytes : List ℕ) (n : ℕ) (before after : List ℕ) : Type 0 where
+  pub count : n ≡ length bytes
+  pub leaves : after ≡ bytes ++ drop (length bytes) before

@@ -1,12 +1,12 @@
-// What stands in a line: hex pairs, numbers; where a line ends.
+// What stands in a line: hex pairs, numbers; where a line ends; what is kept of a block.
 ghost use mathlib.Core.Path.{_≡_};
-ghost use lib.ListN.{length};
-ghost use Prim.Native.Nat.{ℕ, _+_, _<_, _≤_, max};
+ghost use lib.ListN.{length, take};
+ghost use Prim.Native.Nat.{ℕ, _+_, _-_, _<_, _≤_, max, min};
 ghost use Rattle.base.specs.Choice.{if_then_else_, if_from_to_then_else_, _=?_};
 ghost use Rattle.base.specs.Outcome.{accepted, isAccepted};
 ghost use Rattle.base.specs.Text.{hex2};
 ghost use Rattle.base.specs.Written.{Writes};
-ghost use Rattle.lines.specs.Lines.{decimal, digitOf, newline, newlineFrom, pairOf, pairsOf, space};
+ghost use Rattle.lines.specs.Lines.{Keeps, between, decimal, digitOf, newline, newlineFrom, pairOf, pairsOf, space};
 use base::refusal::Refusal;
 use base::text::digit;
 use base::written::Written;
@@ -211,4 +211,36 @@ pub fn newline_from(block: &[u8], at: usize) -> usize
         i += 1;
     }
     i
+}
+
+fn least(a: usize, b: usize) -> usize
+    ensures { λ r. ⌜ r ≡ min a b ⌝ }
+{
+    if a < b { a } else { b }
+}
+
+// How many bytes a block of a length has from a place up to another, and at most so many.
+fn span(length: usize, at: usize, end: usize, most: usize) -> usize
+    ensures { λ r. ⌜ r ≡ min most (min (end - at) («length» - at)) ⌝ }
+{
+    let end = least(end, length);
+    if end < at {
+        return 0;
+    }
+    least(most, end - at)
+}
+
+// What a block has from a place up to another, at most so many bytes of it, moves to the block's start: the rest of a
+// block, behind which the next one is read.
+pub fn kept(block: &mut [u8], at: usize, end: usize, most: usize) -> usize
+    ensures { λ r. ⌜ Keeps (take most (between at end (now (block .entry)))) r (now (block .entry)) (now (block .exit)) ⌝ }
+{
+    let n = span(block.len(), at, end, most);
+    let mut i: usize = 0;
+    while i < n {
+        let byte = block[at + i];
+        block[i] = byte;
+        i += 1;
+    }
+    n
 }

@@ -1,14 +1,43 @@
 use borrow.Author.Needs.{needs}
-use mathlib.Core.Path.{_≡_}
+use mathlib.Core.Path.{_≡_, refl}
+use Prim.Native.Nat.{_<_}
+use native.Mathlib.Omega.{arith}
 use lib.ListN.{length}
+use Rattle.collector.specs.Collector.{held}
+use Rattle.chandump.specs.Run.{Ready}
+use Rattle.chandump.proofs.Laws.{ready-first}
 use Rattle.chandump.proofs.run.Statement.{statement}
 use Rattle.chandump.proofs.run.Tie as tie
 
 abbrev Inv-loop : tie.InvT-loop
-Inv-loop bytes₀ marks₀ block₀ line₀ out₀ t₀ budget₀ bytes marks block line out t budget = (length block ≡ length block₀) × ((length line ≡ length line₀) × (length out ≡ length out₀))
+Inv-loop bytes₀ marks₀ block₀ out₀ turn₀ bytes marks block out turn = (0 < turn .calls → Ready (turn .held) block out (held bytes marks)) × ((length block ≡ length block₀) × (length out ≡ length out₀))
 
 abbrev μ-loop : tie.MeasureT-loop
-μ-loop bytes₀ marks₀ block₀ line₀ out₀ t₀ budget₀ bytes marks block line out t budget = budget
+μ-loop bytes₀ marks₀ block₀ out₀ turn₀ bytes marks block out turn = turn .calls
+
+begun-requires : tie.Need-begun-requires Inv-loop μ-loop
+begun-requires c κs = search needs
+
+loop-holds : tie.Need-loop-holds Inv-loop μ-loop
+loop-holds c = ?
+
+once-requires : tie.Need-once-requires Inv-loop μ-loop
+once-requires c κs = ?
+
+loop-less : tie.Need-loop-less Inv-loop μ-loop
+loop-less c = search needs
+
+loop-again : tie.Need-loop-again Inv-loop μ-loop
+loop-again c = ?
+
+same-length : tie.Need-same-length Inv-loop μ-loop
+same-length c = search needs
+
+same-length-2 : tie.Need-same-length-2 Inv-loop μ-loop
+same-length-2 c = search needs
+
+returns : tie.Need-returns Inv-loop μ-loop
+returns c = search needs
 
 pub run-spec : {M : Type 1} → statement M
 run-spec =
@@ -16,14 +45,11 @@ run-spec =
     (tie.spec
     Inv-loop
     μ-loop
-    (search needs)
-    (search needs)
-    (search needs)
-    (search needs)
-    (search needs)
-    (search needs)
-    (search needs)
-    (search needs)
-    (search needs)
-    (search needs)
-    (λ c. search needs))
+    begun-requires
+    loop-holds
+    once-requires
+    loop-less
+    loop-again
+    same-length
+    same-length-2
+    returns)

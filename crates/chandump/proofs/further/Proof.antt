@@ -1,0 +1,26 @@
+use borrow.Author.Needs.{needs}
+use Rattle.chandump.proofs.Laws.{further-none, further-some}
+use Rattle.chandump.proofs.further.Statement.{statement}
+use Rattle.chandump.proofs.further.Tie as tie
+use Rattle.chandump.proofs.further.Reads as reads
+use Rattle.chandump.proofs.further.Lts as lts
+
+-- src/main.rt:159:9
+returns : tie.Need-returns
+returns c =
+    let a = c .before .before .args in
+    further-none (a .at) (a .part) (c .if1 .taken)
+
+-- src/main.rt:166:13
+add-t4 : tie.Need-add-t4
+add-t4 c = search needs
+
+-- src/main.rt:154:1
+returns-2 : tie.Need-returns-2
+returns-2 c =
+    let i = c .before in
+    let a = i .before .before .args in
+    further-some (a .at) (a .part) (i .if1 .left)
+
+pub further-spec : {M : Type 1} → statement M
+further-spec = tie.close (tie.spec returns add-t4 returns-2)

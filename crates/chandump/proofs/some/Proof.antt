@@ -1,0 +1,63 @@
+use borrow.Author.Needs.{needs}
+use Rattle.chandump.proofs.Laws.{answered, put-within}
+use Rattle.chandump.proofs.some.Statement.{statement}
+use Rattle.chandump.proofs.some.Tie as tie
+use Rattle.chandump.proofs.some.Reads as reads
+use Rattle.chandump.proofs.some.Lts as lts
+use Rattle.chandump.proofs.known.Reads as known-reads
+use Rattle.chandump.proofs.written.Reads as written-reads
+use Rattle.stream.proofs.feed.Reads as feed-reads
+
+-- src/main.rt:136:5
+known-requires : tie.Need-known-requires
+known-requires c κs = search needs
+
+-- src/main.rt:137:9
+feed-requires : tie.Need-feed-requires
+feed-requires c κs = search needs
+
+-- src/main.rt:139:22
+sub-written : tie.Need-sub-written
+sub-written c = search needs
+
+-- src/main.rt:139:22
+part-written-start : tie.Need-part-written-start
+part-written-start c = search needs
+
+-- src/main.rt:139:22
+part-written-end : tie.Need-part-written-end
+part-written-end c =
+    let f = c .before .before .before in
+    let a = f .before .before .before .before .before .before .before .before .before .args in
+    let w = put-within (a .block .now) (a .out .now) (f .feed .ensures) in
+    search needs
+
+-- src/main.rt:139:9
+written-requires : tie.Need-written-requires
+written-requires c κs = search needs
+
+-- src/main.rt:127:1
+same-length : tie.Need-same-length
+same-length c = search needs
+
+-- src/main.rt:127:1
+returns : tie.Need-returns
+returns c =
+    let f = c .before .before .before .before .before in
+    let k = f .before .before .before .before in
+    let s = k .before .before .before .before .before in
+    let a = s .args in
+    answered (a .block .now) (a .out .now) (f .feed .ensures) (c .written .result) (k .known .ensures) (s .pre)
+
+pub some-spec : {M : Type 1} → statement M
+some-spec =
+    tie.close
+    (tie.spec
+    known-requires
+    feed-requires
+    sub-written
+    part-written-start
+    part-written-end
+    written-requires
+    same-length
+    returns)
