@@ -3,8 +3,8 @@
  * writing of such a list's records.
  *
  * Every function takes any bytes and any numbers. A pair `const uint8_t *x, size_t x_length` is a slice; an empty one may be
- * NULL with the length 0. Every other pointer leads to as many bytes as it says. Slices that are written to and other slices
- * do not overlap.
+ * NULL with the length 0. Every other pointer leads to as many bytes as it says. What is written to overlaps with nothing else
+ * that is lent.
  *
  * Every function returns a number: what was accepted (0, the length that was written, or what the function says), or a
  * refusal. A refusal changes no byte that was lent. Records and messages are written at the start of `out`, and nothing
@@ -62,7 +62,7 @@ enum ghj_refusal {
 /* A refusal's name and what it means. */
 static inline const char *ghj_refusal_text(unsigned refusal) {
     switch (refusal) {
-    case GHJ_NOT_ENOUGH_DATA: return "NotEnoughData: a response is too short, or its channel does not exist";
+    case GHJ_NOT_ENOUGH_DATA: return "NotEnoughData: a response has a wrong length, or its channel does not exist";
     case GHJ_TOO_MUCH_DATA: return "TooMuchData: a suite response is above 16 bytes";
     case GHJ_INVALID_ZERO_SESSION: return "InvalidZeroSession: the session number is 0";
     case GHJ_INVALID_AUTH_TYPE: return "InvalidAuthType: no such authentication type";
@@ -101,6 +101,9 @@ enum ghj_channel { GHJ_CHANNEL_PRIMARY = 0x0, GHJ_CHANNEL_CURRENT = 0xE, GHJ_CHA
 
 /* Authentication types (13.6). */
 enum ghj_auth_type { GHJ_AUTH_NONE = 0, GHJ_AUTH_MD2 = 1, GHJ_AUTH_MD5 = 2, GHJ_AUTH_KEY = 4 };
+
+/* How the first of two types compares with the second. */
+enum ghj_strength { GHJ_WEAKER = 0, GHJ_EQUAL = 1, GHJ_STRONGER = 2 };
 
 /* Privilege levels, and the limit of a channel, which may also be another number up to 15 (6.8). */
 enum ghj_level {
@@ -329,10 +332,10 @@ struct ghj_challenge_record {
     uint8_t challenge[GHJ_CHALLENGE_STRING_SIZE];
 };
 
-/* Activate Session, 3Ah: a struct ghj_activation_record. GHJ_NOT_ENOUGH_DATA below 10 bytes, then GHJ_INVALID_AUTH_TYPE,
- * GHJ_INVALID_ZERO_SESSION, GHJ_INVALID_PRIVILEGE_LEVEL. Type and level count by the low nibble of their byte, whose high
- * nibble is reserved: 12h is MD5, and the record has 2. GHJ_INVALID_AUTH_TYPE where the low nibble is not 0, 1, 2 or 4,
- * GHJ_INVALID_PRIVILEGE_LEVEL where it is not 1 to 5, each with the whole byte. */
+/* Activate Session, 3Ah: a struct ghj_activation_record. Type and level count by the low nibble of their byte, whose high
+ * nibble is reserved: 12h is MD5, and the record has 2. GHJ_NOT_ENOUGH_DATA below 10 bytes, then GHJ_INVALID_AUTH_TYPE where
+ * the low nibble is not 0, 1, 2 or 4, GHJ_INVALID_ZERO_SESSION, GHJ_INVALID_PRIVILEGE_LEVEL where it is not 1 to 5; type and
+ * level with the whole byte. */
 uint64_t ghj_activation(const uint8_t *response, size_t response_length, uint8_t *out, size_t out_length);
 struct ghj_activation_record {
     uint8_t auth_type;   /* enum ghj_auth_type */

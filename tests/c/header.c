@@ -185,6 +185,9 @@ static void texts_fit(void) {
 }
 
 static void suites(void) {
+    check("strength", ghj_compare_strength(GHJ_AUTH_KEY, GHJ_AUTH_MD2) == GHJ_WEAKER);
+    check("strength", ghj_compare_strength(GHJ_AUTH_KEY, GHJ_AUTH_KEY) == GHJ_EQUAL);
+    check("strength", ghj_compare_strength(GHJ_AUTH_MD5, GHJ_AUTH_NONE) == GHJ_STRONGER);
     struct ghj_algorithms_record row;
     check("suite 17", ghj_suite_algorithms(17, (uint8_t *)&row, sizeof row) == sizeof row);
     check("suite 17", row.authentication == GHJ_RAKP_HMAC_SHA256 && row.integrity == GHJ_INTEGRITY_HMAC_SHA256_128);
