@@ -2,17 +2,35 @@
  * after a Set Channel Access, the table of cipher suites, the collector of a list of them, and the strict reading and
  * writing of such a list's records.
  *
- * Every function takes any bytes and any numbers. A pair `const uint8_t *x, size_t x_length` is a slice, which may be
- * empty; its pointer is never null. Slices that are written to and other slices do not overlap.
+ * Every function takes any bytes and any numbers. A pair `const uint8_t *x, size_t x_length` is a slice; an empty one may be
+ * NULL with the length 0. Every other pointer leads to as many bytes as it says. What is written to overlaps with nothing else
+ * that is lent.
  *
  * Every function returns a number: what was accepted (0, the length that was written, or what the function says), or a
  * refusal. A refusal changes no byte that was lent. Records and messages are written at the start of `out`, and nothing
- * behind them; they are refused with GHJ_NO_ROOM where `out` is too short. */
+ * behind them; they are refused with GHJ_NO_ROOM, after all other refusals, where `out` is too short.
+ *
+ * A record is a struct of bytes without holes, which can be lent as `out`:
+ *
+ *     struct ghj_access_record access;
+ *     uint64_t number = ghj_access(response, length, (uint8_t *)&access, sizeof access);
+ *     if (GHJ_IS_REFUSED(number))
+ *         fprintf(stderr, "%s\n", ghj_refusal_text(GHJ_REFUSAL(number)));
+ *
+ * There is no state but what is lent: any thread may call any function, on bytes that no other thread is changing.
+ *
+ * Sections and tables are those of IPMI 2.0. */
 #ifndef GHJALVESTRU_H
 #define GHJALVESTRU_H
 
 #include <stddef.h>
 #include <stdint.h>
+
+/* Of this header, the archive and the Rust crate; rust/CHANGELOG.md says what changed. */
+#define GHJ_VERSION "0.2.0"
+#define GHJ_VERSION_MAJOR 0
+#define GHJ_VERSION_MINOR 2
+#define GHJ_VERSION_PATCH 0
 
 #ifdef __cplusplus
 extern "C" {
@@ -41,10 +59,168 @@ enum ghj_refusal {
     GHJ_BAD_RECORD = 16 /* carries the place; one above 2^55 - 1 counts as 2^55 - 1 */
 };
 
+/* A refusal's name and what it means. */
+static inline const char *ghj_refusal_text(unsigned refusal) {
+    switch (refusal) {
+    case GHJ_NOT_ENOUGH_DATA: return "NotEnoughData: a response has a wrong length, or its channel does not exist";
+    case GHJ_TOO_MUCH_DATA: return "TooMuchData: a suite response is above 16 bytes";
+    case GHJ_INVALID_ZERO_SESSION: return "InvalidZeroSession: the session number is 0";
+    case GHJ_INVALID_AUTH_TYPE: return "InvalidAuthType: no such authentication type";
+    case GHJ_INVALID_PRIVILEGE_LEVEL: return "InvalidPrivilegeLevel: no such privilege level";
+    case GHJ_NO_CHANNEL: return "NoChannel: no channel has this number";
+    case GHJ_BAD_INDEX: return "BadIndex: a list index is above 0x3F";
+    case GHJ_LONG_NAME: return "LongName: a user name is above 16 bytes";
+    case GHJ_NO_FORM: return "NoForm: a record, command or collector that cannot be";
+    case GHJ_NOT_A_REQUEST: return "NotARequest: no command writes these bytes";
+    case GHJ_NO_ROOM: return "NoRoom: the lent buffer is too short";
+    case GHJ_DISAGREES: return "Disagrees: no list explains this answer and those accepted";
+    case GHJ_INCOMPLETE: return "Incomplete: a part of the list was not heard";
+    case GHJ_BAD_LINE: return "BadLine: a line that cannot be read";
+    case GHJ_BAD_RECORD: return "BadRecord: a list that is no sequence of records";
+    default: return "no such refusal";
+    }
+}
+
 /* The number names no type, level, row or suite, or there is none: "answers none, which counts as accepted". Nothing is
  * written. Like GHJ_IS_MISSING's numbers it is apart from every length and count: these are below 2^61, as no slice is as
  * long. */
 #define GHJ_NONE ((uint64_t)1 << 62)
+
+/* The network function of all requests (5.1, Table 5-1) and their commands (Appendix G). */
+#define GHJ_NETFN_APP 0x06
+enum ghj_command {
+    GHJ_GET_CHANNEL_AUTHENTICATION_CAPABILITIES = 0x38, /* 22.13, Table 22-15 */
+    GHJ_GET_SESSION_CHALLENGE = 0x39,                   /* 22.16 */
+    GHJ_ACTIVATE_SESSION = 0x3A,                        /* 22.17 */
+    GHJ_SET_CHANNEL_ACCESS = 0x40,                      /* 22.22 */
+    GHJ_GET_CHANNEL_ACCESS = 0x41,                      /* 22.23, Table 22-28 */
+    GHJ_GET_CHANNEL_INFO = 0x42,                        /* 22.24, Table 22-29 */
+    GHJ_GET_CHANNEL_CIPHER_SUITES = 0x54                /* 22.15, Table 22-17 */
+};
+
+/* Channels (6.3, Table 6-1); 1 to 0xB are numbered ones. */
+enum ghj_channel { GHJ_CHANNEL_PRIMARY = 0x0, GHJ_CHANNEL_CURRENT = 0xE, GHJ_CHANNEL_SYSTEM = 0xF };
+
+/* Authentication types (13.6). */
+enum ghj_auth_type { GHJ_AUTH_NONE = 0, GHJ_AUTH_MD2 = 1, GHJ_AUTH_MD5 = 2, GHJ_AUTH_KEY = 4 };
+
+/* How the first of two types compares with the second. */
+enum ghj_strength { GHJ_WEAKER = 0, GHJ_EQUAL = 1, GHJ_STRONGER = 2 };
+
+/* Privilege levels, and the limit of a channel, which may also be another number up to 15 (6.8). */
+enum ghj_level {
+    GHJ_LEVEL_RESERVED = 0, /* as a limit alone */
+    GHJ_LEVEL_CALLBACK = 1,
+    GHJ_LEVEL_USER = 2,
+    GHJ_LEVEL_OPERATOR = 3,
+    GHJ_LEVEL_ADMINISTRATOR = 4,
+    GHJ_LEVEL_OEM = 5
+};
+
+/* Access modes; a controller may show another number up to 7 (6.6, Table 6-4). */
+enum ghj_mode { GHJ_MODE_DISABLED = 0, GHJ_MODE_PRE_BOOT_ONLY = 1, GHJ_MODE_ALWAYS_AVAILABLE = 2, GHJ_MODE_SHARED = 3 };
+
+/* Which of a channel's two settings. GHJ_LEAVE, neither, is for the pairs of Set Channel Access alone. */
+enum ghj_kind { GHJ_LEAVE = 0, GHJ_NON_VOLATILE = 1, GHJ_VOLATILE = 2 };
+
+/* What a channel runs over (6.5, Table 6-3); 0x0D to 0x5F are reserved, 0x60 to 0x7F a vendor's own. */
+enum ghj_medium {
+    GHJ_MEDIUM_RESERVED = 0x00,
+    GHJ_MEDIUM_IPMB = 0x01,
+    GHJ_MEDIUM_ICMB_1_0 = 0x02,
+    GHJ_MEDIUM_ICMB_0_9 = 0x03,
+    GHJ_MEDIUM_LAN_802_3 = 0x04,
+    GHJ_MEDIUM_SERIAL_MODEM = 0x05,
+    GHJ_MEDIUM_OTHER_LAN = 0x06,
+    GHJ_MEDIUM_PCI_SMBUS = 0x07,
+    GHJ_MEDIUM_SMBUS_1_0 = 0x08,
+    GHJ_MEDIUM_SMBUS_2_0 = 0x09,
+    GHJ_MEDIUM_USB_1_X = 0x0A,
+    GHJ_MEDIUM_USB_2_X = 0x0B,
+    GHJ_MEDIUM_SYSTEM_INTERFACE = 0x0C
+};
+
+/* What is spoken on it (6.4, Table 6-2); 3 and 0x0A to 0x1B are reserved, 0x1C to 0x1F a vendor's own. */
+enum ghj_protocol {
+    GHJ_PROTOCOL_RESERVED = 0x00,
+    GHJ_PROTOCOL_IPMB_1_0 = 0x01,
+    GHJ_PROTOCOL_ICMB_1_0 = 0x02,
+    GHJ_PROTOCOL_IPMI_SMBUS = 0x04,
+    GHJ_PROTOCOL_KCS = 0x05,
+    GHJ_PROTOCOL_SMIC = 0x06,
+    GHJ_PROTOCOL_BT_1_0 = 0x07,
+    GHJ_PROTOCOL_BT_1_5 = 0x08,
+    GHJ_PROTOCOL_TERMINAL_MODE = 0x09
+};
+
+/* Which sessions it has (22.24, Table 22-29). */
+enum ghj_session_support {
+    GHJ_SESSION_LESS = 0,
+    GHJ_SESSION_SINGLE = 1,
+    GHJ_SESSION_MULTI = 2,
+    GHJ_SESSION_BASED = 3
+};
+
+/* The algorithms of a suite (13.28, Tables 13-17 to 13-19). */
+enum ghj_authentication {
+    GHJ_RAKP_NONE = 0,
+    GHJ_RAKP_HMAC_SHA1 = 1,
+    GHJ_RAKP_HMAC_MD5 = 2,
+    GHJ_RAKP_HMAC_SHA256 = 3
+};
+enum ghj_integrity {
+    GHJ_INTEGRITY_NONE = 0,
+    GHJ_INTEGRITY_HMAC_SHA1_96 = 1,
+    GHJ_INTEGRITY_HMAC_MD5_128 = 2,
+    GHJ_INTEGRITY_MD5_128 = 3,
+    GHJ_INTEGRITY_HMAC_SHA256_128 = 4
+};
+enum ghj_confidentiality {
+    GHJ_CONFIDENTIALITY_NONE = 0,
+    GHJ_CONFIDENTIALITY_AES_CBC_128 = 1,
+    GHJ_CONFIDENTIALITY_XRC4_128 = 2,
+    GHJ_CONFIDENTIALITY_XRC4_40 = 3
+};
+
+/* A number that a record has in several bytes, low first. */
+static inline uint64_t ghj_number(const uint8_t *bytes, size_t length) {
+    uint64_t number = 0;
+    while (length > 0)
+        number = number << 8 | bytes[--length];
+    return number;
+}
+
+/* How many bytes each request has. */
+#define GHJ_ACCESS_REQUEST_SIZE 2
+#define GHJ_INFO_REQUEST_SIZE 1
+#define GHJ_CAPABILITIES_REQUEST_SIZE 2
+#define GHJ_CHALLENGE_REQUEST_SIZE 17
+#define GHJ_ACTIVATION_REQUEST_SIZE 22
+#define GHJ_SUITES_REQUEST_SIZE 3
+#define GHJ_SET_ACCESS_REQUEST_SIZE 3
+
+/* How many bytes each record has, which is the size of its struct, and the parts that have a length of their own. */
+#define GHJ_ACCESS_SIZE 5
+#define GHJ_SETTINGS_SIZE 10
+#define GHJ_SET_ACCESS_SIZE 8
+#define GHJ_INFO_SIZE 11
+#define GHJ_CAPABILITIES_SIZE 18
+#define GHJ_CHALLENGE_SIZE 20
+#define GHJ_CHALLENGE_STRING_SIZE 16
+#define GHJ_ACTIVATION_SIZE 10
+#define GHJ_ALGORITHMS_SIZE 3
+#define GHJ_TAGGED_SIZE 32
+#define GHJ_TAGGED_ENTRY_SIZE 5
+
+/* Longer than every text, so that a zero can be put behind it. */
+#define GHJ_TEXT_SIZE 32
+
+/* Of a list that is collected: its bytes and its suites at most, its parts, the bytes of each, the last one's index. */
+#define GHJ_LIST_SIZE 1024
+#define GHJ_LIST_SUITES 204
+#define GHJ_PARTS 64
+#define GHJ_PART_SIZE 16
+#define GHJ_LAST_INDEX 0x3F
 
 /* Requests: the data of each command at the start of `out`; the number is their length. The first argument at fault
  * decides, and GHJ_NO_ROOM comes last. The whole number of a type or level counts, as a command writes no reserved bits. */
@@ -71,50 +247,109 @@ uint64_t ghj_activation_request(uint8_t auth_type, uint8_t privilege, const uint
 /* Get Channel Cipher Suites, 54h. 3 bytes: GHJ_NO_CHANNEL, then GHJ_BAD_INDEX above 0x3F. */
 uint64_t ghj_suites_request(uint8_t channel, uint8_t index, uint8_t *out, size_t out_length);
 
+/* The access settings of a channel. */
+struct ghj_access_record {
+    uint8_t mode; /* enum ghj_mode */
+    /* DISABLED where 1, else 0. */
+    uint8_t alerting_disabled;
+    uint8_t per_message_disabled;
+    uint8_t user_level_disabled;
+    uint8_t limit; /* enum ghj_level */
+};
+
 /* Set Channel Access, 40h. 3 bytes: GHJ_NO_CHANNEL, then GHJ_NO_FORM where a pair is not 0 to 2, the mode above 7 or the
  * limit above 15. `access` is the record that ghj_access gives: any other number than 0 sets a flag. mode_pair says where
- * its mode and flags go, limit_pair where its limit goes: 0 leave, 1 non-volatile, 2 volatile. */
-uint64_t ghj_set_access_request(uint8_t channel, uint8_t mode_pair, uint8_t limit_pair, const uint8_t access[5],
-                                uint8_t *out, size_t out_length);
+ * its mode and flags go, limit_pair where its limit goes: enum ghj_kind. */
+uint64_t ghj_set_access_request(uint8_t channel, uint8_t mode_pair, uint8_t limit_pair,
+                                const uint8_t access[GHJ_ACCESS_SIZE], uint8_t *out, size_t out_length);
 
-/* A request of Set Channel Access, read back. 8 bytes: channel; the two pairs; the access record. GHJ_NOT_A_REQUEST for
- * what the writer does not write. */
+/* A request of Set Channel Access, read back: a struct ghj_set_access_record. GHJ_NOT_A_REQUEST for what the writer does
+ * not write. */
 uint64_t ghj_set_access(const uint8_t *request, size_t request_length, uint8_t *out, size_t out_length);
+struct ghj_set_access_record {
+    uint8_t channel;
+    uint8_t mode_pair;  /* enum ghj_kind */
+    uint8_t limit_pair; /* enum ghj_kind */
+    struct ghj_access_record access;
+};
 
-/* A channel's two settings after the command, 10 bytes: the access record of the non-volatile ones, then that of the
- * volatile ones. `settings` has them before. GHJ_NO_FORM as in the request. What a pair leaves stays as it was: modes and
- * limits of the settings may be any numbers, and a flag that is not 0 is 1 afterwards. */
-uint64_t ghj_set_access_apply(uint8_t mode_pair, uint8_t limit_pair, const uint8_t access[5], const uint8_t settings[10],
-                              uint8_t *out, size_t out_length);
+/* A channel's two settings after the command; `settings` has them before, both as a struct ghj_settings_record.
+ * GHJ_NO_FORM as in the request. What a pair leaves stays as it was: modes and limits of the settings may be any numbers,
+ * and a flag that is not 0 is 1 afterwards. */
+uint64_t ghj_set_access_apply(uint8_t mode_pair, uint8_t limit_pair, const uint8_t access[GHJ_ACCESS_SIZE],
+                              const uint8_t settings[GHJ_SETTINGS_SIZE], uint8_t *out, size_t out_length);
+struct ghj_settings_record {
+    struct ghj_access_record stored; /* non-volatile */
+    struct ghj_access_record in_use; /* volatile */
+};
 
 /* Responses. `response` is the data behind the completion code; the number is the record's length. */
 
-/* Get Channel Access, 41h. 5 bytes: mode; alerting, per-message and user-level authentication DISABLED (0 or 1 each);
- * privilege limit. */
+/* Get Channel Access, 41h: a struct ghj_access_record. GHJ_NOT_ENOUGH_DATA below 2 bytes. */
 uint64_t ghj_access(const uint8_t *response, size_t response_length, uint8_t *out, size_t out_length);
 
-/* Get Channel Info, 42h. 11 bytes: channel; medium; protocol; session support; active sessions; vendor (four bytes, low
- * first); two auxiliary bytes. */
+/* Get Channel Info, 42h: a struct ghj_info_record. GHJ_NOT_ENOUGH_DATA below 9 bytes, and where the channel's nibble is 0xC
+ * or 0xD. */
 uint64_t ghj_info(const uint8_t *response, size_t response_length, uint8_t *out, size_t out_length);
+struct ghj_info_record {
+    uint8_t channel;
+    uint8_t medium;          /* enum ghj_medium */
+    uint8_t protocol;        /* enum ghj_protocol */
+    uint8_t session_support; /* enum ghj_session_support */
+    uint8_t active_sessions;
+    uint8_t vendor[4]; /* low first */
+    uint8_t auxiliary[2];
+};
 
-/* Get Channel Authentication Capabilities, 38h. 18 bytes: channel; OEM, Key, MD5, MD2, none; KG status, per-message
- * enabled, user-level enabled, non-null names, null names, anonymous; v2.0, v1.5 (0 or 1 each); OEM id (three bytes);
- * auxiliary. */
+/* Get Channel Authentication Capabilities, 38h: a struct ghj_capabilities_record. GHJ_NOT_ENOUGH_DATA below 7 bytes, and
+ * below 8 where bit 7 of the second one is set. */
 uint64_t ghj_capabilities(const uint8_t *response, size_t response_length, uint8_t *out, size_t out_length);
+struct ghj_capabilities_record {
+    uint8_t channel; /* the whole byte */
+    /* Offered types, then what else holds, each 0 or 1. */
+    uint8_t oem;
+    uint8_t key;
+    uint8_t md5;
+    uint8_t md2;
+    uint8_t none;
+    uint8_t kg_status;
+    uint8_t per_message_enabled;
+    uint8_t user_level_enabled;
+    uint8_t non_null_names;
+    uint8_t null_names;
+    uint8_t anonymous;
+    uint8_t v2_0; /* connections */
+    uint8_t v1_5;
+    uint8_t oem_id[3]; /* low first */
+    uint8_t auxiliary;
+};
 
-/* Get Session Challenge, 39h. 20 bytes: temporary session number (four bytes, low first); challenge (16). */
+/* Get Session Challenge, 39h: a struct ghj_challenge_record. GHJ_NOT_ENOUGH_DATA where it is not 20 bytes, then
+ * GHJ_INVALID_ZERO_SESSION. */
 uint64_t ghj_challenge(const uint8_t *response, size_t response_length, uint8_t *out, size_t out_length);
+struct ghj_challenge_record {
+    uint8_t session[4]; /* temporary; low first */
+    uint8_t challenge[GHJ_CHALLENGE_STRING_SIZE];
+};
 
-/* Activate Session, 3Ah. 10 bytes: authentication type; session number and first sequence number (four bytes each, low
- * first); privilege level. Type and level count by the low nibble of their byte, whose high nibble is reserved: 12h is MD5,
- * and the record has 2. GHJ_INVALID_AUTH_TYPE where the low nibble is not 0, 1, 2 or 4, GHJ_INVALID_PRIVILEGE_LEVEL where it
- * is not 1 to 5, each with the whole byte. */
+/* Activate Session, 3Ah: a struct ghj_activation_record. Type and level count by the low nibble of their byte, whose high
+ * nibble is reserved: 12h is MD5, and the record has 2. GHJ_NOT_ENOUGH_DATA below 10 bytes, then GHJ_INVALID_AUTH_TYPE where
+ * the low nibble is not 0, 1, 2 or 4, GHJ_INVALID_ZERO_SESSION, GHJ_INVALID_PRIVILEGE_LEVEL where it is not 1 to 5; type and
+ * level with the whole byte. */
 uint64_t ghj_activation(const uint8_t *response, size_t response_length, uint8_t *out, size_t out_length);
+struct ghj_activation_record {
+    uint8_t auth_type;   /* enum ghj_auth_type */
+    uint8_t session[4];  /* low first */
+    uint8_t sequence[4]; /* the first one; low first */
+    uint8_t level;       /* enum ghj_level, from 1 */
+};
 
-/* Get Channel Cipher Suites, 54h. The part of the list that the answer has, 0 to 16 bytes. */
+/* Get Channel Cipher Suites, 54h. The part of the list that the answer has, 0 to 16 bytes. GHJ_TOO_MUCH_DATA above
+ * GHJ_PART_SIZE. */
 uint64_t ghj_suites(const uint8_t *response, size_t response_length, uint8_t *out, size_t out_length);
 
-/* Texts, without a zero behind: the number is their length. */
+/* Texts, without a zero behind: the number is their length, which is below GHJ_TEXT_SIZE. GHJ_NO_ROOM alone where nothing
+ * else is said. */
 
 /* A channel: GHJ_NO_CHANNEL, then GHJ_NO_ROOM. */
 uint64_t ghj_channel_text(uint8_t channel, uint8_t *out, size_t out_length);
@@ -138,43 +373,47 @@ uint64_t ghj_best_auth(uint8_t key, uint8_t md5, uint8_t md2, uint8_t none);
  * the numbers is not 0, 1, 2 or 4. */
 uint64_t ghj_compare_strength(uint8_t auth_type, uint8_t other);
 
-/* A suite's three algorithms, 3 bytes: authentication, integrity, confidentiality. GHJ_NONE, and nothing written, where
- * the number has no row in the table. */
+/* A suite's three algorithms: a struct ghj_algorithms_record. GHJ_NONE, and nothing written, where the number has no row in
+ * the table (22.15); then GHJ_NO_ROOM. */
 uint64_t ghj_suite_algorithms(uint8_t suite, uint8_t *out, size_t out_length);
+struct ghj_algorithms_record {
+    uint8_t authentication;  /* enum ghj_authentication */
+    uint8_t integrity;       /* enum ghj_integrity */
+    uint8_t confidentiality; /* enum ghj_confidentiality */
+};
 
-/* The suite of three algorithms, or GHJ_NONE. */
+/* The suite of three algorithms, or GHJ_NONE; nothing is refused. */
 uint64_t ghj_suite_of(uint8_t authentication, uint8_t integrity, uint8_t confidentiality);
 
-/* One step of the reading of a list: the suite's number, or GHJ_NONE. Moves *position and sets *failed to 0 or 1; any
- * other number than 0 counts as failed. A reading starts with both 0. */
+/* One step of the reading of a list: the suite's number, or GHJ_NONE; nothing is refused. Moves *position and sets *failed
+ * to 0 or 1; any other number than 0 counts as failed. A reading starts with both 0. */
 uint64_t ghj_suite_step(const uint8_t *list, size_t list_length, size_t *position, uint8_t *failed);
 
-/* The numbers of the suites of a whole list, a byte each, up to the first step of the reading that gives none. */
+/* The numbers of the suites of a whole list, a byte each, up to the first step of the reading that gives none: at most one
+ * for every five bytes. GHJ_NO_ROOM. */
 uint64_t ghj_suite_numbers(const uint8_t *list, size_t list_length, uint8_t *out, size_t out_length);
 
-/* Records with tags: a list of suites read strictly, by the standard's format. A record is C0h and a suite number, or
- * C1h, a number and a vendor number (three bytes, low first); then one authentication byte with the top bits 00, any
- * integrity bytes with 01, any confidentiality bytes with 10. The six bits below are an algorithm's number. Exactly the
+/* Records with tags: a list of suites read strictly, by the standard's format (Table 22-18). A record is C0h and a suite
+ * number, or C1h, a number and a vendor number (three bytes, low first); then one authentication byte with the top bits 00,
+ * any integrity bytes with 01, any confidentiality bytes with 10. The six bits below are an algorithm's number. Exactly the
  * sequences of such records are accepted, the empty one too. GHJ_BAD_RECORD carries the place of the first byte from
  * which no continuation gives such a sequence, or the length if only the end is missing. */
 
-/* The record at a position, 32 bytes: number; 0 for a standard suite or 1 for a vendor's own; vendor number (three bytes,
- * low first, zeros for a standard suite); authentication number; two zeros; then three places in the list, each in eight
- * bytes, low first: where its integrity bytes begin, where these end and its confidentiality bytes begin, and where these
- * end. There the next record begins or the list ends, which the next step says. At the end of the list or past it the
- * number is 0, and nothing is written. GHJ_BAD_RECORD, then GHJ_NO_ROOM. */
+/* The record at a position: a struct ghj_tagged_record. At the end of the list or past it the number is 0, and nothing is
+ * written. GHJ_BAD_RECORD, then GHJ_NO_ROOM. */
 uint64_t ghj_tagged_step(const uint8_t *list, size_t list_length, size_t position, uint8_t *out, size_t out_length);
-
-/* These 32 bytes on a machine that keeps the low byte first: there the struct can be lent as `out`. */
+enum ghj_owner { GHJ_STANDARD = 0, GHJ_VENDOR = 1 };
 struct ghj_tagged_record {
     uint8_t number;
-    uint8_t own;
-    uint8_t vendor[3];
+    uint8_t owner;     /* enum ghj_owner */
+    uint8_t vendor[3]; /* low first; zeros for a standard suite */
     uint8_t authentication;
     uint8_t zeros[2];
-    uint64_t integrity;
-    uint64_t confidentiality;
-    uint64_t end;
+    /* Places in the list, low first: where its integrity bytes begin; where these end and its confidentiality bytes begin;
+     * where these end. There the next record begins or the list ends, which the next step says. */
+    uint8_t integrity[8];
+    uint8_t confidentiality[8];
+    uint8_t end[8];
 };
 
 /* How many records the list has, or GHJ_BAD_RECORD. */
@@ -183,10 +422,15 @@ uint64_t ghj_tagged_count(const uint8_t *list, size_t list_length);
 /* The suite numbers of all records in order, a byte each: GHJ_BAD_RECORD, then GHJ_NO_ROOM. */
 uint64_t ghj_tagged_numbers(const uint8_t *list, size_t list_length, uint8_t *out, size_t out_length);
 
-/* The same with whose suites they are, five bytes each: the first five of the record above. */
+/* The same with whose suites they are: a struct ghj_tagged_entry each. GHJ_BAD_RECORD, then GHJ_NO_ROOM. */
 uint64_t ghj_tagged_listing(const uint8_t *list, size_t list_length, uint8_t *out, size_t out_length);
+struct ghj_tagged_entry {
+    uint8_t number;
+    uint8_t owner;
+    uint8_t vendor[3];
+};
 
-/* The numbers of algorithm bytes, a byte each. Those of a record lie between its places. */
+/* The numbers of algorithm bytes, a byte each: GHJ_NO_ROOM. Those of a record lie between its places. */
 uint64_t ghj_tagged_algorithms(const uint8_t *bytes, size_t bytes_length, uint8_t *out, size_t out_length);
 
 /* A record's bytes, the algorithms given by their numbers. GHJ_NO_FORM where owner is neither 0, a standard suite, with
@@ -196,17 +440,22 @@ uint64_t ghj_tagged_write(uint8_t owner, uint32_t vendor, uint8_t number, uint8_
                           const uint8_t *integrity, size_t integrity_length, const uint8_t *confidentiality,
                           size_t confidentiality_length, uint8_t *out, size_t out_length);
 
-/* The collector: joins a list that arrives sixteen bytes at a time. A fresh one is all zeros. */
+/* The collector: joins a list that arrives sixteen bytes at a time. A fresh one is all zeros:
+ *
+ *     struct ghj_collector collector = GHJ_FRESH;
+ *
+ * The functions below take its two arrays; those behind them take the struct. */
 struct ghj_collector {
-    uint8_t bytes[1024];
-    uint8_t marks[64];
+    uint8_t bytes[GHJ_LIST_SIZE];
+    uint8_t marks[GHJ_PARTS];
 };
+#define GHJ_FRESH {{0}, {0}}
 
 /* The answer to an index: 0, or GHJ_NO_FORM, GHJ_BAD_INDEX, GHJ_TOO_MUCH_DATA, GHJ_DISAGREES, in this order. */
 uint64_t ghj_collector_answer(uint8_t bytes[1024], uint8_t marks[64], uint8_t index, const uint8_t *response,
                               size_t response_length);
 
-/* The same, the collector lent whole: by copies, so slower. */
+/* The same, the collector lent whole: by copies, so slower than ghj_collect_answer. */
 uint64_t ghj_collector_take(struct ghj_collector *collector, uint8_t index, const uint8_t *response,
                             size_t response_length);
 
@@ -218,6 +467,21 @@ uint64_t ghj_collector_status(const uint8_t bytes[1024], const uint8_t marks[64]
 /* The whole list, and the numbers of its suites: GHJ_NO_FORM, then GHJ_INCOMPLETE, then GHJ_NO_ROOM. */
 uint64_t ghj_collector_list(const uint8_t bytes[1024], const uint8_t marks[64], uint8_t *out, size_t out_length);
 uint64_t ghj_collector_suites(const uint8_t bytes[1024], const uint8_t marks[64], uint8_t *out, size_t out_length);
+
+/* The same four on the struct. */
+static inline uint64_t ghj_collect_answer(struct ghj_collector *collector, uint8_t index, const uint8_t *response,
+                                          size_t response_length) {
+    return ghj_collector_answer(collector->bytes, collector->marks, index, response, response_length);
+}
+static inline uint64_t ghj_collect_status(const struct ghj_collector *collector) {
+    return ghj_collector_status(collector->bytes, collector->marks);
+}
+static inline uint64_t ghj_collect_list(const struct ghj_collector *collector, uint8_t *out, size_t out_length) {
+    return ghj_collector_list(collector->bytes, collector->marks, out, out_length);
+}
+static inline uint64_t ghj_collect_suites(const struct ghj_collector *collector, uint8_t *out, size_t out_length) {
+    return ghj_collector_suites(collector->bytes, collector->marks, out, out_length);
+}
 
 #ifdef __cplusplus
 }

@@ -5,7 +5,7 @@ use crate::number::{accepted, certain, part};
 use crate::sys::{self, CAPACITY, MISSING, PARTS};
 use crate::Error;
 
-/// Joins a list that arrives sixteen bytes at a time, in any order.
+/// Joins a list that arrives sixteen bytes at a time, in any order. Not `Copy`: it holds a kilobyte.
 ///
 /// ```
 /// use ghjalvestru::{Collector, Error, Status};
@@ -20,14 +20,29 @@ use crate::Error;
 /// assert_eq!(numbers, [3, 8, 17, 12]);
 /// # Ok::<(), Error>(())
 /// ```
-#[derive(Clone, Debug, PartialEq, Eq)]
+#[derive(Clone, Debug, PartialEq, Eq, Hash)]
 pub struct Collector {
     bytes: [u8; CAPACITY],
     marks: [u8; PARTS],
 }
 
 /// What a collector has heard.
-#[derive(Clone, Copy, Debug, PartialEq, Eq)]
+///
+/// ```
+/// use ghjalvestru::{Collector, Error, Status};
+///
+/// # fn ask(index: u8) -> Vec<u8> {
+/// #     [0xC0, 0x03, 0x01, 0x41, 0x81].repeat(5).chunks(16).nth(index.into()).unwrap_or_default().to_vec()
+/// # }
+/// // `ask` sends the request of an index and gives the response's data.
+/// let mut collector = Collector::new();
+/// while let Status::Missing(index) = collector.status() {
+///     collector.answer(index, &ask(index))?;
+/// }
+/// assert_eq!(collector.status(), Status::Complete(25));
+/// # Ok::<(), Error>(())
+/// ```
+#[derive(Clone, Copy, Debug, PartialEq, Eq, Hash)]
 pub enum Status {
     /// The whole list, of this length.
     Complete(usize),
@@ -46,19 +61,24 @@ impl Default for Collector {
 
 impl Collector {
     /// One that has heard nothing.
+    #[must_use]
     pub fn new() -> Self {
         Self::default()
     }
 
     /// Takes the answer to an index: the whole response data. A refusal changes nothing.
     ///
-    /// Refuses [`Error::BadIndex`], [`Error::TooMuchData`], [`Error::Disagrees`], in this order.
+    /// # Errors
+    ///
+    /// [`Error::BadIndex`] above 0x3F, [`Error::TooMuchData`] above sixteen bytes, [`Error::Disagrees`] where no list of at
+    /// most 1,024 bytes explains this answer and those accepted, in this order.
     pub fn answer(&mut self, index: u8, response: &[u8]) -> Result<(), Error> {
         let Self { bytes, marks } = self;
         accepted(sys::collector_answer(bytes, marks, index, response)).map(drop)
     }
 
     /// Is the list complete?
+    #[must_use]
     pub fn status(&self) -> Status {
         // No other code touches the two arrays, so they are what calls make of fresh ones.
         let number = certain(accepted(sys::collector_status(&self.bytes, &self.marks)));
@@ -68,18 +88,23 @@ impl Collector {
         }
     }
 
-    /// The whole list, or [`Error::Incomplete`] with the lowest unheard index.
+    /// The whole list.
+    ///
+    /// # Errors
+    ///
+    /// [`Error::Incomplete`] with the lowest unheard index.
     pub fn list(&self) -> Result<Vec<u8>, Error> {
         part::<CAPACITY>(|out| sys::collector_list(&self.bytes, &self.marks, out))
     }
 
-    /// The suites of the whole list, up to the first step of its reading that gives none, or [`Error::Incomplete`].
+    /// The suites of the whole list, up to the first step of its reading that gives none.
+    ///
+    /// # Errors
+    ///
+    /// [`Error::Incomplete`] with the lowest unheard index.
     pub fn suites(&self) -> Result<Vec<CipherSuite>, Error> {
-        let numbers = part::<CAPACITY>(|out| sys::collector_suites(&self.bytes, &self.marks, out));
-        Ok(numbers?
-            .into_iter()
-            .filter_map(CipherSuite::from_id)
-            .collect())
+        let numbers = part::<CAPACITY>(|out| sys::collector_suites(&self.bytes, &self.marks, out))?;
+        Ok(numbers.into_iter().map(CipherSuite::of_the_table).collect())
     }
 }
 

@@ -2,8 +2,20 @@
 
 use std::fmt;
 
-/// Why an input was refused. A refusal changes nothing.
-#[derive(Clone, Copy, Debug, PartialEq, Eq, Hash)]
+/// Why an input was refused. A refusal changes nothing. More may come, each with a number of its own.
+///
+/// ```
+/// use ghjalvestru::app::auth::BeginSessionInfo;
+/// use ghjalvestru::Error;
+///
+/// let refused = BeginSessionInfo::parse(&[0x03, 0x01, 0x00, 0x00, 0x00, 0x00, 0x00, 0x00, 0x00, 0x04]);
+/// let error = refused.expect_err("there is no type 3");
+/// assert_eq!(error, Error::InvalidAuthType(3));
+/// assert_eq!((error.number(), error.name(), error.carried()), (4, "InvalidAuthType", Some(3)));
+/// assert_eq!(error.to_string(), "refused 4 (InvalidAuthType, 0x03)");
+/// ```
+#[derive(Clone, Copy, Debug, PartialEq, Eq, PartialOrd, Ord, Hash)]
+#[non_exhaustive]
 pub enum Error {
     /// A response is too short; a challenge is not 20 bytes; channel info has a channel that does not exist.
     NotEnoughData,
@@ -85,16 +97,19 @@ impl Error {
     }
 
     /// The refusal's number: from 1 to 14, or 16.
+    #[must_use]
     pub fn number(&self) -> u8 {
         self.row().0
     }
 
     /// The refusal's name, as the variant's.
+    #[must_use]
     pub fn name(&self) -> &'static str {
         self.row().1
     }
 
     /// The byte that was refused, of [`Error::Incomplete`] the lowest unheard index, of [`Error::BadRecord`] the place.
+    #[must_use]
     pub fn carried(&self) -> Option<usize> {
         match *self {
             Self::InvalidAuthType(byte)
@@ -108,12 +123,16 @@ impl Error {
 
 impl fmt::Display for Error {
     fn fmt(&self, f: &mut fmt::Formatter<'_>) -> fmt::Result {
-        write!(f, "refused {} ({}", self.number(), self.name())?;
-        match (self, self.carried()) {
-            (Self::BadRecord(place), _) => write!(f, ", at {place})"),
-            (_, Some(byte)) => write!(f, ", 0x{byte:02X})"),
-            (_, None) => write!(f, ")"),
-        }
+        let carried = match (self, self.carried()) {
+            (Self::BadRecord(place), _) => format!(", at {place}"),
+            (_, Some(byte)) => format!(", 0x{byte:02X}"),
+            (_, None) => String::new(),
+        };
+        f.pad(&format!(
+            "refused {} ({}{carried})",
+            self.number(),
+            self.name()
+        ))
     }
 }
 
@@ -145,6 +164,7 @@ mod tests {
         let error: Box<dyn std::error::Error> = Error::InvalidAuthType(3).into();
         assert_eq!(error.to_string(), "refused 4 (InvalidAuthType, 0x03)");
         assert_eq!(Error::NoRoom.to_string(), "refused 11 (NoRoom)");
+        assert_eq!(format!("{:>21}|", Error::NoRoom), "  refused 11 (NoRoom)|");
         assert_eq!(
             Error::BadRecord(1024).to_string(),
             "refused 16 (BadRecord, at 1024)"

@@ -2,7 +2,9 @@
 //!
 //! All answers come from proved code, through its C functions ([`sys`]); this crate turns their numbers and records into
 //! types. Types, variants and methods have the names of the crate ipmi-rs-core 0.6.0, in modules of the same names;
-//! `docs/MIGRATING.md` says what differs. Every input is accepted, or refused by an [`Error`]; none panics.
+//! `docs/MIGRATING.md` says what differs. Every input is accepted, or refused by an [`Error`]; none panics. There is no state
+//! but what is lent or held: all is `Send` and `Sync`. Tables and sections in the pages are those of IPMI 2.0; `CHANGELOG.md`
+//! says what each version changed.
 //!
 //! ```
 //! use ghjalvestru::app::auth::{AuthType, ChannelAuthenticationCapabilities, CipherSuite};
@@ -44,3 +46,16 @@ pub use error::Error;
 #[cfg(doctest)]
 #[doc = include_str!("../../docs/MIGRATING.md")]
 struct Migrating;
+
+#[cfg(test)]
+mod tests {
+    use super::*;
+
+    /// As the first page says.
+    #[test]
+    fn all_may_go_to_other_threads() {
+        fn may_go<T: Send + Sync>() {}
+        may_go::<(Collector, Error, connection::Message)>();
+        may_go::<(app::auth::TaggedRecords<'_>, app::auth::Iter<'_>)>();
+    }
+}

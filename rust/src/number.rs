@@ -34,17 +34,22 @@ pub fn record<const N: usize>(call: impl FnOnce(&mut [u8]) -> u64) -> Result<[u8
     Ok(out)
 }
 
+/// How many bytes a call wrote, or how many there are: a length of the machine's, as those of its slices are.
+pub fn length(number: u64) -> Result<usize, Error> {
+    accepted(number).map(|length| length as usize)
+}
+
 /// The bytes that a call writes, at most as many.
 pub fn part<const N: usize>(call: impl FnOnce(&mut [u8]) -> u64) -> Result<Vec<u8>, Error> {
     let mut out = [0; N];
-    let length = accepted(call(&mut out))?;
-    Ok(out.into_iter().take(length as usize).collect())
+    let length = length(call(&mut out))?;
+    Ok(certain(out.get(..length).ok_or(length)).to_vec())
 }
 
-/// Shows the text that a call writes.
+/// Shows the text that a call writes, as wide as is asked for.
 pub fn show(f: &mut fmt::Formatter<'_>, call: impl FnOnce(&mut [u8]) -> u64) -> fmt::Result {
     let text = part::<TEXT>(call).map_err(|_| fmt::Error)?;
-    f.write_str(std::str::from_utf8(&text).map_err(|_| fmt::Error)?)
+    f.pad(std::str::from_utf8(&text).map_err(|_| fmt::Error)?)
 }
 
 /// An answer that the types of what was asked allow no refusal of.

@@ -210,16 +210,19 @@ pub fn activation_request(
 }
 
 /// The strongest of the authentication types that are offered: 0 is not offered.
+#[must_use]
 pub fn best_auth(key: u8, md5: u8, md2: u8, none: u8) -> u64 {
     ghj_best_auth(key, md5, md2, none)
 }
 
 /// 0 where the first is weaker, 1 where they are equal, 2 where it is stronger; [`NONE`] where a whole number names no type.
+#[must_use]
 pub fn compare_strength(auth_type: u8, other: u8) -> u64 {
     ghj_compare_strength(auth_type, other)
 }
 
 /// The suite of three algorithms.
+#[must_use]
 pub fn suite_of(authentication: u8, integrity: u8, confidentiality: u8) -> u64 {
     ghj_suite_of(authentication, integrity, confidentiality)
 }
@@ -263,6 +266,7 @@ pub fn tagged_step(list: &[u8], position: usize, out: &mut [u8]) -> u64 {
 }
 
 /// How many records a list has that is read strictly.
+#[must_use]
 pub fn tagged_count(list: &[u8]) -> u64 {
     // SAFETY: the pointer goes with its slice's length.
     unsafe { ghj_tagged_count(list.as_ptr(), list.len()) }
@@ -352,6 +356,7 @@ pub fn collector_take(collector: &mut Lent, index: u8, response: &[u8]) -> u64 {
 }
 
 /// Whether a collector is complete.
+#[must_use]
 pub fn collector_status(bytes: &[u8; CAPACITY], marks: &[u8; PARTS]) -> u64 {
     ghj_collector_status(bytes, marks)
 }

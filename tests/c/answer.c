@@ -6,19 +6,20 @@
 int main(void) {
     static const uint8_t response[] = {0x22, 0x04};
     static const uint8_t part[] = {0xC0, 0x03, 0x01, 0x41, 0x81};
-    static struct ghj_collector collector; /* fresh: all zeros */
-    uint8_t record[5], text[32], suites[204];
+    struct ghj_access_record access;
+    uint8_t text[GHJ_TEXT_SIZE], suites[GHJ_LIST_SUITES];
 
-    uint64_t number = ghj_access(response, sizeof response, record, sizeof record);
+    uint64_t number = ghj_access(response, sizeof response, (uint8_t *)&access, sizeof access);
     if (GHJ_IS_REFUSED(number)) {
-        printf("refused %u\n", GHJ_REFUSAL(number));
+        fprintf(stderr, "%s\n", ghj_refusal_text(GHJ_REFUSAL(number)));
         return 1;
     }
-    number = ghj_mode_text(record[0], text, sizeof text);
-    printf("%.*s, alerting %s\n", (int)number, (const char *)text, record[1] ? "off" : "on");
+    number = ghj_mode_text(access.mode, text, sizeof text);
+    printf("%.*s, alerting %s\n", (int)number, (const char *)text, access.alerting_disabled ? "off" : "on");
 
-    ghj_collector_answer(collector.bytes, collector.marks, 0, part, sizeof part);
-    number = ghj_collector_suites(collector.bytes, collector.marks, suites, sizeof suites);
+    struct ghj_collector collector = GHJ_FRESH;
+    ghj_collect_answer(&collector, 0, part, sizeof part);
+    number = ghj_collect_suites(&collector, suites, sizeof suites);
     for (uint64_t i = 0; i < number && !GHJ_IS_REFUSED(number); i++)
         printf("suite %u\n", suites[i]);
     return 0;

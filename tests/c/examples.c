@@ -367,18 +367,6 @@ static void tagged(void) {
     check("tagged old", ghj_suite_numbers(records, 5, out, 1) == 1 && out[0] == 3);
 }
 
-/* The record as a struct, where the machine keeps the low byte first. */
-static void tagged_struct(void) {
-    struct ghj_tagged_record record = {0};
-    check("tagged struct", sizeof record == 32);
-    check("tagged struct", ghj_tagged_step(records, sizeof records, 5, (uint8_t *)&record, sizeof record) == 32);
-    check("tagged struct", record.number == 0x80 && record.own == 1 && memcmp(record.vendor, "\xF2\x1B\x00", 3) == 0);
-    check("tagged struct", record.authentication == 0 && record.zeros[0] == 0 && record.zeros[1] == 0);
-    static const uint64_t one = 1;
-    if (*(const uint8_t *)&one == 1)
-        check("tagged struct", record.integrity == 11 && record.confidentiality == 13 && record.end == 13);
-}
-
 /* All that read the whole list say the place, whatever the room. */
 static void bad_record(const char *what, const void *list, size_t length, uint64_t place) {
     uint8_t out[32], before[32];
@@ -495,7 +483,6 @@ int main(void) {
     table();
     lists();
     tagged();
-    tagged_struct();
     tagged_refused();
     many_records();
     tagged_forms();

@@ -4,12 +4,8 @@
 #include <inttypes.h>
 #include <stdio.h>
 
-/* A place: eight bytes, low first. */
-static size_t place(const uint8_t *bytes) {
-    uint64_t number = 0;
-    for (int i = 7; i >= 0; i--)
-        number = number << 8 | bytes[i];
-    return (size_t)number;
+static size_t place(const uint8_t bytes[8]) {
+    return (size_t)ghj_number(bytes, 8);
 }
 
 static void algorithms(const char *what, const uint8_t *list, size_t from, size_t to) {
@@ -22,21 +18,21 @@ static void algorithms(const char *what, const uint8_t *list, size_t from, size_
 }
 
 static void show(const uint8_t *list, size_t length) {
-    uint8_t record[32];
+    struct ghj_tagged_record record;
     size_t position = 0;
     uint64_t number;
-    while ((number = ghj_tagged_step(list, length, position, record, sizeof record)) == sizeof record) {
-        printf("suite %u", record[0]);
-        if (record[1] == 1)
-            printf(" of vendor %lu", record[2] | (unsigned long)record[3] << 8 | (unsigned long)record[4] << 16);
-        printf(", authentication %u", record[5]);
-        algorithms("integrity", list, place(record + 8), place(record + 16));
-        algorithms("confidentiality", list, place(record + 16), place(record + 24));
+    while ((number = ghj_tagged_step(list, length, position, (uint8_t *)&record, sizeof record)) == sizeof record) {
+        printf("suite %u", record.number);
+        if (record.owner == GHJ_VENDOR)
+            printf(" of vendor %" PRIu64, ghj_number(record.vendor, sizeof record.vendor));
+        printf(", authentication %u", record.authentication);
+        algorithms("integrity", list, place(record.integrity), place(record.confidentiality));
+        algorithms("confidentiality", list, place(record.confidentiality), place(record.end));
         puts("");
-        position = place(record + 24);
+        position = place(record.end);
     }
     if (GHJ_IS_REFUSED(number))
-        printf("refused %u at %" PRIu64 "\n", GHJ_REFUSAL(number), GHJ_CARRIED(number));
+        printf("%s, at %" PRIu64 "\n", ghj_refusal_text(GHJ_REFUSAL(number)), GHJ_CARRIED(number));
 }
 
 int main(void) {

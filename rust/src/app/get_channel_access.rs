@@ -1,4 +1,4 @@
-//! Get Channel Access, 41h.
+//! Get Channel Access, 41h. Reference: IPMI 2.0, 22.23, Table 22-28.
 
 use crate::connection::{Channel, IpmiCommand, Message};
 use crate::number::{certain, record, show};
@@ -6,8 +6,16 @@ use crate::sys::{self, ACCESS};
 use crate::Error;
 use std::fmt;
 
-/// Asks for the access settings of a channel.
-#[derive(Clone, Copy, Debug, PartialEq, Eq)]
+/// Asks for the access settings of a channel. Reference: IPMI 2.0, Table 22-28.
+///
+/// ```
+/// use ghjalvestru::app::GetChannelAccess;
+/// use ghjalvestru::connection::{Channel, Message};
+///
+/// let message: Message = GetChannelAccess::non_volatile(Channel::Current).into();
+/// assert_eq!((message.cmd(), message.data()), (0x41, &[0x0E, 0x40][..]));
+/// ```
+#[derive(Clone, Copy, Debug, PartialEq, Eq, Hash)]
 pub struct GetChannelAccess {
     channel: Channel,
     access_type: ChannelAccessType,
@@ -15,6 +23,7 @@ pub struct GetChannelAccess {
 
 impl GetChannelAccess {
     /// For the settings of this type.
+    #[must_use]
     pub fn new(channel: Channel, access_type: ChannelAccessType) -> Self {
         Self {
             channel,
@@ -23,11 +32,13 @@ impl GetChannelAccess {
     }
 
     /// For the stored settings.
+    #[must_use]
     pub fn non_volatile(channel: Channel) -> Self {
         Self::new(channel, ChannelAccessType::NonVolatile)
     }
 
     /// For the settings in use.
+    #[must_use]
     pub fn volatile(channel: Channel) -> Self {
         Self::new(channel, ChannelAccessType::Volatile)
     }
@@ -54,7 +65,7 @@ impl IpmiCommand for GetChannelAccess {
 }
 
 /// Which settings are asked for.
-#[derive(Clone, Copy, Debug, PartialEq, Eq, Hash)]
+#[derive(Clone, Copy, Debug, PartialEq, Eq, PartialOrd, Ord, Hash)]
 pub enum ChannelAccessType {
     /// The stored ones.
     NonVolatile,
@@ -62,8 +73,20 @@ pub enum ChannelAccessType {
     Volatile,
 }
 
-/// The access settings of a channel. A flag that is set says DISABLED.
-#[derive(Clone, Debug, PartialEq, Eq)]
+/// The access settings of a channel. A flag that is set says DISABLED. Reference: IPMI 2.0, Table 22-28.
+///
+/// ```
+/// use ghjalvestru::app::{ChannelAccess, ChannelPrivilegeLevel};
+/// use ghjalvestru::Error;
+///
+/// let access = ChannelAccess::parse(&[0x22, 0x04])?;
+/// assert_eq!(access.access_mode.to_string(), "Always Available");
+/// assert!(access.alerting_disabled && !access.per_msg_auth_disabled && !access.user_level_auth_disabled);
+/// assert_eq!(access.privilege_level_limit, ChannelPrivilegeLevel::Administrator);
+/// assert_eq!(ChannelAccess::parse(&[0x22]), Err(Error::NotEnoughData));
+/// # Ok::<(), Error>(())
+/// ```
+#[derive(Clone, Copy, Debug, PartialEq, Eq, Hash)]
 pub struct ChannelAccess {
     /// When the channel can be used.
     pub access_mode: ChannelAccessMode,
@@ -78,7 +101,11 @@ pub struct ChannelAccess {
 }
 
 impl ChannelAccess {
-    /// Reads a response; refuses [`Error::NotEnoughData`].
+    /// Reads a response.
+    ///
+    /// # Errors
+    ///
+    /// [`Error::NotEnoughData`] below two bytes.
     pub fn parse(data: &[u8]) -> Result<Self, Error> {
         record(|out| sys::access(data, out)).map(Self::from_record)
     }
@@ -95,7 +122,7 @@ impl ChannelAccess {
     }
 
     /// As C has it. `Unknown` of a number that has a name becomes that number, as the named one does.
-    pub(super) fn to_record(&self) -> [u8; ACCESS] {
+    pub(super) fn to_record(self) -> [u8; ACCESS] {
         [
             self.access_mode.into(),
             self.alerting_disabled.into(),
@@ -106,13 +133,14 @@ impl ChannelAccess {
     }
 
     /// Is the channel disabled?
+    #[must_use]
     pub fn is_disabled(&self) -> bool {
         self.access_mode == ChannelAccessMode::Disabled
     }
 }
 
-/// When a channel can be used.
-#[derive(Clone, Copy, Debug, PartialEq, Eq, Hash)]
+/// When a channel can be used. Reference: IPMI 2.0, 6.6, Table 6-4.
+#[derive(Clone, Copy, Debug, PartialEq, Eq, PartialOrd, Ord, Hash)]
 pub enum ChannelAccessMode {
     /// Never.
     Disabled,
@@ -156,8 +184,8 @@ impl fmt::Display for ChannelAccessMode {
     }
 }
 
-/// The highest privilege level of a channel.
-#[derive(Clone, Copy, Debug, PartialEq, Eq, Hash)]
+/// The highest privilege level of a channel. Reference: IPMI 2.0, Table 22-28.
+#[derive(Clone, Copy, Debug, PartialEq, Eq, PartialOrd, Ord, Hash)]
 pub enum ChannelPrivilegeLevel {
     /// Not to be used.
     Reserved,
@@ -250,5 +278,11 @@ mod tests {
         }
         assert_eq!(ChannelAccessMode::PreBootOnly.to_string(), "Pre-boot Only");
         assert_eq!(ChannelPrivilegeLevel::Oem.to_string(), "OEM");
+        let padded = format!(
+            "{:>5}|{:*^9}",
+            ChannelPrivilegeLevel::Oem,
+            ChannelAccessMode::Shared
+        );
+        assert_eq!(padded, "  OEM|*Shared**");
     }
 }

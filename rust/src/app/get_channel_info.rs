@@ -1,18 +1,27 @@
-//! Get Channel Info, 42h.
+//! Get Channel Info, 42h. Reference: IPMI 2.0, 22.24, Table 22-29.
 
 use crate::connection::{Channel, IpmiCommand, Message};
 use crate::number::{certain, record, show};
 use crate::{sys, Error};
 use std::fmt;
 
-/// Asks what a channel is.
-#[derive(Clone, Copy, Debug, PartialEq, Eq)]
+/// Asks what a channel is. Reference: IPMI 2.0, Table 22-29.
+///
+/// ```
+/// use ghjalvestru::app::GetChannelInfo;
+/// use ghjalvestru::connection::{Channel, Message};
+///
+/// let message: Message = GetChannelInfo::new(Channel::System).into();
+/// assert_eq!((message.cmd(), message.data()), (0x42, &[0x0F][..]));
+/// ```
+#[derive(Clone, Copy, Debug, PartialEq, Eq, Hash)]
 pub struct GetChannelInfo {
     channel: Channel,
 }
 
 impl GetChannelInfo {
     /// For this channel.
+    #[must_use]
     pub fn new(channel: Channel) -> Self {
         Self { channel }
     }
@@ -33,8 +42,19 @@ impl IpmiCommand for GetChannelInfo {
     }
 }
 
-/// What a channel is.
-#[derive(Clone, Debug, PartialEq, Eq)]
+/// What a channel is. Reference: IPMI 2.0, Table 22-29.
+///
+/// ```
+/// use ghjalvestru::app::{ChannelInfo, ChannelMediumType};
+/// use ghjalvestru::Error;
+///
+/// let info = ChannelInfo::parse(&[0x01, 0x04, 0x01, 0x81, 0xF2, 0x1B, 0x00, 0x00, 0x00])?;
+/// assert_eq!(info.medium_type, ChannelMediumType::Lan802_3);
+/// assert_eq!(info.session_support.to_string(), "Multi-session");
+/// assert_eq!((info.active_sessions, info.vendor_id), (1, 7154));
+/// # Ok::<(), Error>(())
+/// ```
+#[derive(Clone, Copy, Debug, PartialEq, Eq, Hash)]
 pub struct ChannelInfo {
     /// Which channel it is.
     pub channel: Channel,
@@ -53,7 +73,11 @@ pub struct ChannelInfo {
 }
 
 impl ChannelInfo {
-    /// Reads a response; refuses [`Error::NotEnoughData`], also where there is no such channel.
+    /// Reads a response.
+    ///
+    /// # Errors
+    ///
+    /// [`Error::NotEnoughData`] below nine bytes, and where there is no such channel.
     pub fn parse(data: &[u8]) -> Result<Self, Error> {
         let [channel, medium, protocol, support, active, a, b, c, d, byte1, byte2] =
             record(|out| sys::info(data, out))?;
@@ -70,7 +94,7 @@ impl ChannelInfo {
 }
 
 /// The two auxiliary bytes.
-#[derive(Clone, Copy, Debug, PartialEq, Eq)]
+#[derive(Clone, Copy, Debug, PartialEq, Eq, PartialOrd, Ord, Hash)]
 pub struct AuxChannelInfo {
     /// The first.
     pub byte1: u8,
@@ -78,8 +102,8 @@ pub struct AuxChannelInfo {
     pub byte2: u8,
 }
 
-/// What a channel runs over.
-#[derive(Clone, Copy, Debug, PartialEq, Eq, Hash)]
+/// What a channel runs over. Reference: IPMI 2.0, 6.5, Table 6-3.
+#[derive(Clone, Copy, Debug, PartialEq, Eq, PartialOrd, Ord, Hash)]
 #[allow(missing_docs)] // The standard's names.
 pub enum ChannelMediumType {
     Reserved,
@@ -148,8 +172,8 @@ impl fmt::Display for ChannelMediumType {
     }
 }
 
-/// What is spoken on a channel.
-#[derive(Clone, Copy, Debug, PartialEq, Eq, Hash)]
+/// What is spoken on a channel. Reference: IPMI 2.0, 6.4, Table 6-2.
+#[derive(Clone, Copy, Debug, PartialEq, Eq, PartialOrd, Ord, Hash)]
 #[allow(missing_docs)] // The standard's names.
 pub enum ChannelProtocolType {
     Reserved,
@@ -206,8 +230,8 @@ impl fmt::Display for ChannelProtocolType {
     }
 }
 
-/// Which sessions a channel has.
-#[derive(Clone, Copy, Debug, PartialEq, Eq, Hash)]
+/// Which sessions a channel has. Reference: IPMI 2.0, Table 22-29.
+#[derive(Clone, Copy, Debug, PartialEq, Eq, PartialOrd, Ord, Hash)]
 #[allow(missing_docs)] // The standard's names.
 pub enum ChannelSessionSupport {
     Sessionless,

@@ -1,13 +1,13 @@
-//! Set Channel Access, 40h.
+//! Set Channel Access, 40h. Reference: IPMI 2.0, 22.22.
 
 use super::get_channel_access::ChannelAccess;
-use crate::connection::{Channel, Message};
-use crate::number::record;
-use crate::sys::{self, ACCESS, SETTINGS};
+use crate::connection::{Channel, IpmiCommand, Message};
+use crate::number::{certain, record};
+use crate::sys::{self, SETTINGS};
 use crate::Error;
 
 /// Which of a channel's two settings a part of the command sets.
-#[derive(Clone, Copy, Debug, PartialEq, Eq, Hash)]
+#[derive(Clone, Copy, Debug, PartialEq, Eq, PartialOrd, Ord, Hash)]
 pub enum AccessPair {
     /// Neither: the part stays as it was.
     Leave,
@@ -15,7 +15,7 @@ pub enum AccessPair {
     NonVolatile,
     /// Those in use.
     Volatile,
-    /// Not to be used: no command with it has a form.
+    /// Not to be used: no command has it.
     Reserved,
 }
 
@@ -53,36 +53,58 @@ impl From<AccessPair> for u8 {
 ///     non_volatile: ChannelAccess::parse(&[0x22, 0x04])?,
 ///     volatile: ChannelAccess::parse(&[0x20, 0x03])?,
 /// };
-/// let command = SetChannelAccess {
-///     channel: Channel::new(1)?,
-///     mode_pair: AccessPair::Volatile,
-///     limit_pair: AccessPair::Leave,
-///     access: ChannelAccess::parse(&[0x02, 0x00])?,
-/// };
+/// let wanted = ChannelAccess::parse(&[0x02, 0x00])?;
+/// let command = SetChannelAccess::new(Channel::new(1)?, AccessPair::Volatile, AccessPair::Leave, wanted)?;
 ///
 /// // The mode in use is set; the limit in use and all that is stored stay.
-/// let after = command.apply(&before)?;
+/// let after = command.apply(&before);
 /// assert_eq!(after.volatile, ChannelAccess::parse(&[0x02, 0x03])?);
 /// assert_eq!(after.non_volatile, before.non_volatile);
 ///
-/// let message = Message::try_from(command)?;
+/// let message: Message = command.into();
 /// assert_eq!((message.cmd(), message.data()), (0x40, &[0x01, 0x82, 0x00][..]));
 /// # Ok::<(), Error>(())
 /// ```
-#[derive(Clone, Debug, PartialEq, Eq)]
+#[derive(Clone, Copy, Debug, PartialEq, Eq, Hash)]
 pub struct SetChannelAccess {
-    /// Whose settings they are.
-    pub channel: Channel,
-    /// Where the mode and the three flags go.
-    pub mode_pair: AccessPair,
-    /// Where the limit goes.
-    pub limit_pair: AccessPair,
-    /// What is set. A part that is marked [`AccessPair::Leave`] is written and read, and changes nothing.
-    pub access: ChannelAccess,
+    channel: Channel,
+    mode_pair: AccessPair,
+    limit_pair: AccessPair,
+    access: ChannelAccess,
 }
 
 impl SetChannelAccess {
-    /// Reads a request; refuses [`Error::NotARequest`] for all bytes that no command writes.
+    /// For this channel: where the mode and the three flags of `access` go, and where its limit goes. A part that is marked
+    /// [`AccessPair::Leave`] is written and read, and changes nothing.
+    ///
+    /// # Errors
+    ///
+    /// [`Error::NoForm`] where a pair is [`AccessPair::Reserved`], or the mode or the limit is one that no Get shows.
+    pub fn new(
+        channel: Channel,
+        mode_pair: AccessPair,
+        limit_pair: AccessPair,
+        access: ChannelAccess,
+    ) -> Result<Self, Error> {
+        let command = Self {
+            channel,
+            mode_pair,
+            limit_pair,
+            access,
+        };
+        // `Unknown` of a number that has a name: C is given the number alone, and would take it for the named value.
+        if ChannelAccess::from_record(access.to_record()) != access {
+            return Err(Error::NoForm);
+        }
+        command.request()?;
+        Ok(command)
+    }
+
+    /// Reads a request.
+    ///
+    /// # Errors
+    ///
+    /// [`Error::NotARequest`] for all bytes that no command writes.
     pub fn read(request: &[u8]) -> Result<Self, Error> {
         let [channel, mode_pair, limit_pair, access @ ..] =
             record::<8>(|out| sys::set_access(request, out))?;
@@ -94,45 +116,83 @@ impl SetChannelAccess {
         })
     }
 
+    /// Whose settings they are.
+    #[must_use]
+    pub fn channel(&self) -> Channel {
+        self.channel
+    }
+
+    /// Where the mode and the three flags go.
+    #[must_use]
+    pub fn mode_pair(&self) -> AccessPair {
+        self.mode_pair
+    }
+
+    /// Where the limit goes.
+    #[must_use]
+    pub fn limit_pair(&self) -> AccessPair {
+        self.limit_pair
+    }
+
+    /// What is set.
+    #[must_use]
+    pub fn access(&self) -> ChannelAccess {
+        self.access
+    }
+
     /// The settings after the command, of whichever channel they are: a part that is marked [`AccessPair::Leave`] stays.
     /// In settings, `Unknown` of a number that has a name counts as the named value; no Get shows it.
-    ///
-    /// Refuses [`Error::NoForm`] where the command has no form as bytes: a pair is [`AccessPair::Reserved`], or its mode or
-    /// limit is one that no Get shows.
-    pub fn apply(&self, settings: &ChannelSettings) -> Result<ChannelSettings, Error> {
+    #[must_use]
+    pub fn apply(&self, settings: &ChannelSettings) -> ChannelSettings {
         let (mode_pair, limit_pair) = (self.mode_pair.into(), self.limit_pair.into());
-        let (access, before) = (self.access_record()?, settings.to_record());
-        record(|out| sys::set_access_apply(mode_pair, limit_pair, &access, &before, out))
-            .map(ChannelSettings::from_record)
+        let (access, before) = (self.access.to_record(), settings.to_record());
+        let after =
+            record(|out| sys::set_access_apply(mode_pair, limit_pair, &access, &before, out));
+        ChannelSettings::from_record(certain(after))
     }
 
-    /// The access record for C. `Unknown` of a number that has a name is refused here: C is given the number alone, and would
-    /// take it for the named value.
-    fn access_record(&self) -> Result<[u8; ACCESS], Error> {
-        let access = self.access.to_record();
-        if ChannelAccess::from_record(access) != self.access {
-            return Err(Error::NoForm);
-        }
-        Ok(access)
+    fn request(&self) -> Result<[u8; 3], Error> {
+        let (mode_pair, limit_pair) = (self.mode_pair.into(), self.limit_pair.into());
+        let (channel, access) = (self.channel.value(), self.access.to_record());
+        record(|out| sys::set_access_request(channel, mode_pair, limit_pair, &access, out))
     }
 }
 
-impl TryFrom<SetChannelAccess> for Message {
-    type Error = Error;
-
-    /// Refuses [`Error::NoForm`], as [`SetChannelAccess::apply`] does.
-    fn try_from(command: SetChannelAccess) -> Result<Self, Error> {
-        let (mode_pair, limit_pair) = (command.mode_pair.into(), command.limit_pair.into());
-        let (channel, access) = (command.channel.value(), command.access_record()?);
-        let data = record::<3>(|out| {
-            sys::set_access_request(channel, mode_pair, limit_pair, &access, out)
-        })?;
-        Ok(Message::request(0x40, data))
+impl From<SetChannelAccess> for Message {
+    fn from(command: SetChannelAccess) -> Self {
+        Message::request(0x40, certain(command.request()))
     }
 }
 
-/// A channel's two settings.
-#[derive(Clone, Debug, PartialEq, Eq)]
+impl IpmiCommand for SetChannelAccess {
+    type Output = ();
+
+    /// Any data: the response has none, and what is more than a response has is not looked at.
+    fn parse_success_response(_: &[u8]) -> Result<(), Error> {
+        Ok(())
+    }
+}
+
+/// A channel's two settings, as the two Gets show them.
+///
+/// ```
+/// use ghjalvestru::app::{ChannelAccess, ChannelSettings, GetChannelAccess};
+/// use ghjalvestru::connection::{Channel, Message};
+/// use ghjalvestru::Error;
+///
+/// /// `ask` gives the data of a request's response.
+/// fn settings(channel: Channel, mut ask: impl FnMut(Message) -> Vec<u8>) -> Result<ChannelSettings, Error> {
+///     Ok(ChannelSettings {
+///         non_volatile: ChannelAccess::parse(&ask(GetChannelAccess::non_volatile(channel).into()))?,
+///         volatile: ChannelAccess::parse(&ask(GetChannelAccess::volatile(channel).into()))?,
+///     })
+/// }
+///
+/// let shown = settings(Channel::Current, |_| vec![0x22, 0x04])?;
+/// assert_eq!(shown.non_volatile, shown.volatile);
+/// # Ok::<(), Error>(())
+/// ```
+#[derive(Clone, Copy, Debug, PartialEq, Eq, Hash)]
 pub struct ChannelSettings {
     /// The stored ones.
     pub non_volatile: ChannelAccess,
@@ -150,7 +210,7 @@ impl ChannelSettings {
     }
 
     /// As C has them.
-    fn to_record(&self) -> [u8; SETTINGS] {
+    fn to_record(self) -> [u8; SETTINGS] {
         let [a, b, c, d, e] = self.non_volatile.to_record();
         let [p, q, r, s, t] = self.volatile.to_record();
         [a, b, c, d, e, p, q, r, s, t]
@@ -162,28 +222,32 @@ mod tests {
     use super::AccessPair::{Leave, NonVolatile, Reserved, Volatile};
     use super::*;
     use crate::app::{ChannelAccessMode, ChannelPrivilegeLevel};
+    use crate::sys::ACCESS;
 
     /// No field is that of `settings`.
+    const ACCESS_SET: [u8; ACCESS] = [3, 1, 0, 1, 2];
+
     fn command(mode_pair: AccessPair, limit_pair: AccessPair) -> SetChannelAccess {
-        SetChannelAccess {
-            channel: Channel::Current,
-            mode_pair,
-            limit_pair,
-            access: ChannelAccess::from_record([3, 1, 0, 1, 2]),
-        }
+        let access = ChannelAccess::from_record(ACCESS_SET);
+        SetChannelAccess::new(Channel::Current, mode_pair, limit_pair, access).unwrap()
     }
 
     fn settings() -> ChannelSettings {
         ChannelSettings::from_record([2, 0, 1, 0, 4, 7, 0, 1, 0, 15])
     }
 
-    /// Writing and applying refuse the same commands, by the same number.
-    fn has_form(command: SetChannelAccess) -> bool {
-        let applied = command.apply(&settings()).map(drop);
-        let written = Message::try_from(command).map(drop);
-        assert_eq!(applied, written);
-        assert!(written == Ok(()) || written == Err(Error::NoForm));
-        written.is_ok()
+    /// What is made can be written and applied; what is not is refused by one number.
+    fn has_form(mode_pair: AccessPair, limit_pair: AccessPair, access: ChannelAccess) -> bool {
+        match SetChannelAccess::new(Channel::Current, mode_pair, limit_pair, access) {
+            Ok(command) => {
+                let _ = (command.apply(&settings()), Message::from(command));
+                true
+            }
+            Err(refused) => {
+                assert_eq!(refused, Error::NoForm);
+                false
+            }
+        }
     }
 
     #[test]
@@ -202,8 +266,8 @@ mod tests {
             },
         };
         assert_eq!(command, expected);
-        assert_eq!(command.apply(&settings()), Ok(settings()));
-        let message = Message::try_from(command).unwrap();
+        assert_eq!(command.apply(&settings()), settings());
+        let message = Message::from(command);
         assert_eq!(message.data(), [0x01, 0x3F, 0x04]);
         assert_eq!((message.netfn_raw(), message.cmd()), (0x06, 0x40));
     }
@@ -213,9 +277,10 @@ mod tests {
         for value in 0..=u8::MAX {
             assert_eq!(u8::from(AccessPair::from(value)), value.min(3));
         }
+        let access = ChannelAccess::from_record(ACCESS_SET);
         for pair in [Leave, NonVolatile, Volatile, Reserved] {
-            assert_eq!(has_form(command(pair, Volatile)), pair != Reserved);
-            assert_eq!(has_form(command(NonVolatile, pair)), pair != Reserved);
+            assert_eq!(has_form(pair, Volatile, access), pair != Reserved);
+            assert_eq!(has_form(NonVolatile, pair, access), pair != Reserved);
         }
     }
 
@@ -223,14 +288,14 @@ mod tests {
     #[test]
     fn modes_and_limits_that_no_get_shows() {
         let mode = |access_mode| {
-            let mut command = command(Leave, Volatile);
-            command.access.access_mode = access_mode;
-            has_form(command)
+            let mut access = ChannelAccess::from_record(ACCESS_SET);
+            access.access_mode = access_mode;
+            has_form(Leave, Volatile, access)
         };
         let limit = |privilege_level_limit| {
-            let mut command = command(NonVolatile, Leave);
-            command.access.privilege_level_limit = privilege_level_limit;
-            has_form(command)
+            let mut access = ChannelAccess::from_record(ACCESS_SET);
+            access.privilege_level_limit = privilege_level_limit;
+            has_form(NonVolatile, Leave, access)
         };
         for value in 0..=u8::MAX {
             assert_eq!(mode(value.into()), value <= 7);
@@ -251,14 +316,19 @@ mod tests {
             assert_eq!(read, Err(Error::NotARequest));
             return;
         }
-        let expected = SetChannelAccess {
-            channel: channel.unwrap(),
-            mode_pair: (mode >> 6).into(),
-            limit_pair: (limit >> 6).into(),
-            access: ChannelAccess::parse(&[mode, limit]).unwrap(),
-        };
-        assert_eq!(read.as_ref(), Ok(&expected));
-        assert_eq!(Message::try_from(expected).unwrap().data(), request);
+        let (mode_pair, limit_pair) = ((mode >> 6).into(), (limit >> 6).into());
+        let access = ChannelAccess::parse(&[mode, limit]).unwrap();
+        assert_eq!(
+            read,
+            SetChannelAccess::new(channel.unwrap(), mode_pair, limit_pair, access)
+        );
+        let read = read.unwrap();
+        assert_eq!(
+            (read.channel(), read.mode_pair(), read.limit_pair()),
+            (channel.unwrap(), mode_pair, limit_pair)
+        );
+        assert_eq!(read.access(), access);
+        assert_eq!(Message::from(read).data(), request);
     }
 
     #[test]
@@ -288,7 +358,7 @@ mod tests {
             (Volatile, Volatile, [2, 0, 1, 0, 4, 3, 1, 0, 1, 2]),
         ];
         for (mode_pair, limit_pair, expected) in rows {
-            let after = command(mode_pair, limit_pair).apply(&settings()).unwrap();
+            let after = command(mode_pair, limit_pair).apply(&settings());
             assert_eq!(after.to_record(), expected);
         }
     }
@@ -300,8 +370,8 @@ mod tests {
             let Ok(command) = SetChannelAccess::read(&[0x01, mode, limit]) else {
                 continue;
             };
-            let once = command.apply(&settings()).unwrap();
-            assert_eq!(command.apply(&once), Ok(once));
+            let once = command.apply(&settings());
+            assert_eq!(command.apply(&once), once);
         }
     }
 
@@ -310,13 +380,20 @@ mod tests {
     fn settings_of_any_numbers() {
         for value in 0..=u8::MAX {
             let before = ChannelSettings::from_record([value, 1, 0, 1, value, 2, 0, 1, 0, value]);
-            let after = command(Volatile, Leave).apply(&before).unwrap();
+            let after = command(Volatile, Leave).apply(&before);
             assert_eq!(after.non_volatile, before.non_volatile);
             let limit = before.volatile.privilege_level_limit;
             assert_eq!(after.volatile.privilege_level_limit, limit);
         }
         let mut before = settings();
         before.non_volatile.access_mode = ChannelAccessMode::Unknown(2);
-        assert_eq!(command(Leave, Leave).apply(&before), Ok(settings()));
+        assert_eq!(command(Leave, Leave).apply(&before), settings());
+    }
+
+    #[test]
+    fn any_response() {
+        for data in [&[][..], &[0x40]] {
+            assert_eq!(SetChannelAccess::parse_success_response(data), Ok(()));
+        }
     }
 }

@@ -1,4 +1,4 @@
-//! Activate Session, 3Ah.
+//! Activate Session, 3Ah. Reference: IPMI 2.0, 22.17.
 
 use super::{AuthType, PrivilegeLevel};
 use crate::connection::{IpmiCommand, Message};
@@ -7,8 +7,28 @@ use crate::sys::{self, CHALLENGE};
 use crate::Error;
 use std::num::NonZeroU32;
 
-/// Begins a session.
-#[derive(Clone, Debug, PartialEq, Eq)]
+/// Begins a session. Reference: IPMI 2.0, 22.17.
+///
+/// ```
+/// use ghjalvestru::app::auth::{ActivateSession, AuthType, PrivilegeLevel, SessionChallenge};
+/// use ghjalvestru::connection::Message;
+/// use ghjalvestru::Error;
+///
+/// fn activate(challenge: &SessionChallenge) -> Message {
+///     let command = ActivateSession {
+///         auth_type: AuthType::MD5,
+///         maximum_privilege_level: PrivilegeLevel::Operator,
+///         challenge_string: challenge.challenge_string,
+///         initial_sequence_number: 1,
+///     };
+///     command.into()
+/// }
+///
+/// let message = activate(&SessionChallenge::parse(&[7; 20])?);
+/// assert_eq!((message.cmd(), message.data().len()), (0x3A, 22));
+/// # Ok::<(), Error>(())
+/// ```
+#[derive(Clone, Copy, Debug, PartialEq, Eq, Hash)]
 pub struct ActivateSession {
     /// The authentication type.
     pub auth_type: AuthType,
@@ -40,8 +60,19 @@ impl IpmiCommand for ActivateSession {
     }
 }
 
-/// A session that was begun.
-#[derive(Clone, Debug, PartialEq, Eq)]
+/// A session that was begun. Reference: IPMI 2.0, 22.17.
+///
+/// ```
+/// use ghjalvestru::app::auth::{AuthType, BeginSessionInfo, PrivilegeLevel};
+/// use ghjalvestru::Error;
+///
+/// let begun = BeginSessionInfo::parse(&[0x02, 0x01, 0x00, 0x00, 0x00, 0x05, 0x00, 0x00, 0x00, 0x04])?;
+/// assert_eq!((begun.auth_type, begun.session_id.get()), (AuthType::MD5, 1));
+/// assert_eq!(begun.initial_sequence_number, 5);
+/// assert_eq!(begun.maximum_privilege_level, PrivilegeLevel::Administrator);
+/// # Ok::<(), Error>(())
+/// ```
+#[derive(Clone, Copy, Debug, PartialEq, Eq, Hash)]
 pub struct BeginSessionInfo {
     /// The authentication type.
     pub auth_type: AuthType,
@@ -54,8 +85,12 @@ pub struct BeginSessionInfo {
 }
 
 impl BeginSessionInfo {
-    /// Reads a response; refuses [`Error::NotEnoughData`], then [`Error::InvalidAuthType`], [`Error::InvalidZeroSession`],
-    /// [`Error::InvalidPrivilegeLevel`]. Type and level count by the low nibble of their byte; a refusal carries the whole byte.
+    /// Reads a response. Type and level count by the low nibble of their byte.
+    ///
+    /// # Errors
+    ///
+    /// [`Error::NotEnoughData`] below ten bytes, then [`Error::InvalidAuthType`] with the whole byte,
+    /// [`Error::InvalidZeroSession`], [`Error::InvalidPrivilegeLevel`] with the whole byte.
     pub fn parse(data: &[u8]) -> Result<Self, Error> {
         let [auth_type, i, j, k, l, p, q, r, s, level] = record(|out| sys::activation(data, out))?;
         let id = u32::from_le_bytes([i, j, k, l]);
@@ -98,7 +133,7 @@ mod tests {
             initial_sequence_number: 5,
             maximum_privilege_level: PrivilegeLevel::Administrator,
         };
-        assert_eq!(BeginSessionInfo::parse(&data), Ok(begun.clone()));
+        assert_eq!(BeginSessionInfo::parse(&data), Ok(begun));
         data[0] = 0x12;
         assert_eq!(BeginSessionInfo::parse(&data), Ok(begun));
         assert_eq!(

@@ -2,7 +2,7 @@
 
 #![allow(missing_docs)] // The standard's names.
 
-/// How a session is begun.
+/// How a session is begun. Reference: IPMI 2.0, 13.28, Table 13-17.
 #[derive(Clone, Copy, Debug, PartialEq, Eq, PartialOrd, Ord, Hash)]
 pub enum AuthenticationAlgorithm {
     RakpNone,
@@ -36,7 +36,7 @@ impl From<AuthenticationAlgorithm> for u8 {
     }
 }
 
-/// How a packet is sealed.
+/// How a packet is sealed. Reference: IPMI 2.0, Table 13-18.
 #[derive(Clone, Copy, Debug, PartialEq, Eq, PartialOrd, Ord, Hash)]
 pub enum IntegrityAlgorithm {
     None,
@@ -73,7 +73,7 @@ impl From<IntegrityAlgorithm> for u8 {
     }
 }
 
-/// How a packet is kept secret.
+/// How a packet is kept secret. Reference: IPMI 2.0, Table 13-19.
 #[derive(Clone, Copy, Debug, PartialEq, Eq, PartialOrd, Ord, Hash)]
 pub enum ConfidentialityAlgorithm {
     None,

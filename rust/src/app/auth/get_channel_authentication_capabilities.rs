@@ -1,12 +1,23 @@
-//! Get Channel Authentication Capabilities, 38h.
+//! Get Channel Authentication Capabilities, 38h. Reference: IPMI 2.0, 22.13, Table 22-15.
 
 use super::{AuthType, PrivilegeLevel};
 use crate::connection::{Channel, IpmiCommand, Message};
 use crate::number::{certain, record, some};
 use crate::{sys, Error};
 
-/// Asks which authentication a channel offers for a level.
-#[derive(Clone, Copy, Debug, PartialEq, Eq)]
+/// Asks which authentication a channel offers for a level. Reference: IPMI 2.0, Table 22-15.
+///
+/// ```
+/// use ghjalvestru::app::auth::{GetChannelAuthenticationCapabilities, PrivilegeLevel};
+/// use ghjalvestru::connection::{Channel, Message};
+/// use ghjalvestru::Error;
+///
+/// let command = GetChannelAuthenticationCapabilities::new(Channel::new(1)?, PrivilegeLevel::Administrator);
+/// let message: Message = command.into();
+/// assert_eq!((message.cmd(), message.data()), (0x38, &[0x81, 0x04][..]));
+/// # Ok::<(), Error>(())
+/// ```
+#[derive(Clone, Copy, Debug, PartialEq, Eq, Hash)]
 pub struct GetChannelAuthenticationCapabilities {
     channel_number: Channel,
     privilege_level: PrivilegeLevel,
@@ -14,6 +25,7 @@ pub struct GetChannelAuthenticationCapabilities {
 
 impl GetChannelAuthenticationCapabilities {
     /// For this channel and level.
+    #[must_use]
     pub fn new(channel_number: Channel, privilege_level: PrivilegeLevel) -> Self {
         Self {
             channel_number,
@@ -39,8 +51,19 @@ impl IpmiCommand for GetChannelAuthenticationCapabilities {
     }
 }
 
-/// Which authentication a channel offers.
-#[derive(Clone, Debug, PartialEq, Eq)]
+/// Which authentication a channel offers. Reference: IPMI 2.0, Table 22-15.
+///
+/// ```
+/// use ghjalvestru::app::auth::{AuthType, ChannelAuthenticationCapabilities};
+/// use ghjalvestru::Error;
+///
+/// let offered = ChannelAuthenticationCapabilities::parse(&[0x01, 0x96, 0x04, 0x03, 0x00, 0x00, 0x00, 0x00])?;
+/// assert!(offered.md5 && offered.md2 && offered.key && !offered.none);
+/// assert!(offered.per_message_authentication_enabled && offered.ipmi2_connections_supported);
+/// assert_eq!(offered.best_auth(), Some(AuthType::MD5));
+/// # Ok::<(), Error>(())
+/// ```
+#[derive(Clone, Copy, Debug, PartialEq, Eq, Hash)]
 pub struct ChannelAuthenticationCapabilities {
     /// The whole first byte.
     pub channel_number: u8,
@@ -77,7 +100,11 @@ pub struct ChannelAuthenticationCapabilities {
 }
 
 impl ChannelAuthenticationCapabilities {
-    /// Reads a response; refuses [`Error::NotEnoughData`].
+    /// Reads a response.
+    ///
+    /// # Errors
+    ///
+    /// [`Error::NotEnoughData`] below seven bytes, and below eight where bit 7 of the second one is set.
     pub fn parse(data: &[u8]) -> Result<Self, Error> {
         let [channel, oem, key, md5, md2, none, kg, per_message, user_level, non_null, null, anonymous, v2, v15, oem_id @ .., aux] =
             record::<18>(|out| sys::capabilities(data, out))?;
@@ -102,10 +129,12 @@ impl ChannelAuthenticationCapabilities {
     }
 
     /// The strongest of MD5, MD2, Key and None that is offered.
+    #[must_use]
     pub fn best_auth(&self) -> Option<AuthType> {
         let offered = [self.key, self.md5, self.md2, self.none];
         let [key, md5, md2, none] = offered.map(u8::from);
-        AuthType::try_from(some(sys::best_auth(key, md5, md2, none))?).ok()
+        let number = some(sys::best_auth(key, md5, md2, none))?;
+        Some(certain(AuthType::try_from(number).map_err(|()| number)))
     }
 }
 

@@ -1,8 +1,8 @@
-//! Get Channel Cipher Suites, 54h; the suites and the reading of their list.
+//! Get Channel Cipher Suites, 54h; the suites and the reading of their list. Reference: IPMI 2.0, 22.15, Table 22-17.
 
 use super::{AuthenticationAlgorithm, ConfidentialityAlgorithm, IntegrityAlgorithm};
 use crate::connection::{Channel, IpmiCommand, Message};
-use crate::number::{accepted, certain, record, some};
+use crate::number::{certain, length, record, some};
 use crate::sys::{self, CAPACITY, PARTS};
 use crate::Error;
 use std::ops::Deref;
@@ -10,15 +10,30 @@ use std::ops::Deref;
 /// How many bytes of the list an answer has at most.
 const PART: usize = CAPACITY / PARTS;
 
-/// Asks for a part of the list of suites.
-#[derive(Clone, Copy, Debug, PartialEq, Eq)]
+/// Asks for a part of the list of suites. Reference: IPMI 2.0, Table 22-17.
+///
+/// ```
+/// use ghjalvestru::app::auth::GetChannelCipherSuites;
+/// use ghjalvestru::connection::{Channel, Message};
+/// use ghjalvestru::Error;
+///
+/// let message: Message = GetChannelCipherSuites::new(Channel::new(1)?, 2)?.into();
+/// assert_eq!((message.cmd(), message.data()), (0x54, &[0x01, 0x00, 0x02][..]));
+/// assert_eq!(GetChannelCipherSuites::new(Channel::Current, 0x40), Err(Error::BadIndex));
+/// # Ok::<(), Error>(())
+/// ```
+#[derive(Clone, Copy, Debug, PartialEq, Eq, Hash)]
 pub struct GetChannelCipherSuites {
     channel: Channel,
     list_index: u8,
 }
 
 impl GetChannelCipherSuites {
-    /// For the part of this index; refuses [`Error::BadIndex`] above 0x3F.
+    /// For the part of this index.
+    ///
+    /// # Errors
+    ///
+    /// [`Error::BadIndex`] above 0x3F.
     pub fn new(channel: Channel, list_index: u8) -> Result<Self, Error> {
         request(channel, list_index)?;
         Ok(Self {
@@ -46,20 +61,34 @@ impl IpmiCommand for GetChannelCipherSuites {
     }
 }
 
-/// A part of the list of suites; as a slice, its bytes.
-#[derive(Clone, Debug, PartialEq, Eq)]
+/// A part of the list of suites; as a slice, its bytes. [`Collector`](crate::Collector) joins the parts.
+///
+/// ```
+/// use ghjalvestru::app::auth::ChannelCipherSuites;
+/// use ghjalvestru::Error;
+///
+/// let part = ChannelCipherSuites::parse(&[0xC0, 0x03, 0x01, 0x41, 0x81])?;
+/// assert_eq!(part[..2], [0xC0, 0x03]);
+/// assert_eq!(ChannelCipherSuites::parse(&[0; 17]), Err(Error::TooMuchData));
+/// # Ok::<(), Error>(())
+/// ```
+#[derive(Clone, Copy, Debug, PartialEq, Eq, Hash)]
 pub struct ChannelCipherSuites {
     data_length: usize,
     record_data: [u8; PART],
 }
 
 impl ChannelCipherSuites {
-    /// Reads a response; refuses [`Error::TooMuchData`] above sixteen bytes.
+    /// Reads a response.
+    ///
+    /// # Errors
+    ///
+    /// [`Error::TooMuchData`] above sixteen bytes.
     pub fn parse(data: &[u8]) -> Result<Self, Error> {
         let mut record_data = [0; PART];
-        let length = accepted(sys::suites(data, &mut record_data))?;
+        let data_length = length(sys::suites(data, &mut record_data))?;
         Ok(Self {
-            data_length: length as usize,
+            data_length,
             record_data,
         })
     }
@@ -73,6 +102,7 @@ impl ChannelCipherSuites {
     /// let numbers: Vec<u8> = ChannelCipherSuites::parse_full_data(&list).map(|suite| suite.id()).collect();
     /// assert_eq!(numbers, [3, 17]);
     /// ```
+    #[must_use]
     pub fn parse_full_data(data: &[u8]) -> Iter<'_> {
         Iter {
             list: data,
@@ -104,12 +134,21 @@ impl Iterator for Iter<'_> {
 
     fn next(&mut self) -> Option<CipherSuite> {
         let number = sys::suite_step(self.list, &mut self.position, &mut self.failed);
-        CipherSuite::from_id(some(number)?)
+        some(number).map(CipherSuite::of_the_table)
     }
 }
 
-/// A cipher suite of the standard's table, named by its number.
-#[derive(Clone, Copy, Debug, PartialEq, Eq, Hash)]
+/// A cipher suite of the standard's table, named by its number. Reference: IPMI 2.0, 22.15.
+///
+/// ```
+/// use ghjalvestru::app::auth::{CipherSuite, ConfidentialityAlgorithm};
+///
+/// let suite = CipherSuite::from_id(17);
+/// assert_eq!(suite, Some(CipherSuite::Id17));
+/// assert_eq!(CipherSuite::Id17.confidentiality(), ConfidentialityAlgorithm::AesCbc128);
+/// assert_eq!(CipherSuite::from_id(20), None);
+/// ```
+#[derive(Clone, Copy, Debug, PartialEq, Eq, PartialOrd, Ord, Hash)]
 #[allow(missing_docs)] // The numbers say all.
 pub enum CipherSuite {
     Id0,
@@ -160,22 +199,31 @@ impl CipherSuite {
     ];
 
     /// Its number.
+    #[must_use]
     pub fn id(&self) -> u8 {
         *self as u8
     }
 
     /// The suite of a number.
+    #[must_use]
     pub fn from_id(value: u8) -> Option<Self> {
         Self::ALL.get(usize::from(value)).copied()
     }
 
+    /// The suite of a number that C gave as one of the table.
+    pub(crate) fn of_the_table(value: u8) -> Self {
+        certain(Self::from_id(value).ok_or(value))
+    }
+
     /// The suite of three algorithms' numbers: authentication, integrity, confidentiality.
+    #[must_use]
     pub fn from_suite([authentication, integrity, confidentiality]: [u8; 3]) -> Option<Self> {
         let number = sys::suite_of(authentication, integrity, confidentiality);
-        Self::from_id(some(number)?)
+        some(number).map(Self::of_the_table)
     }
 
     /// The numbers of its algorithms: authentication, integrity, confidentiality.
+    #[must_use]
     pub fn into_suite(self) -> [u8; 3] {
         let mut row = [0; 3];
         let number = sys::suite_algorithms(self.id(), &mut row);
@@ -183,16 +231,19 @@ impl CipherSuite {
     }
 
     /// How its sessions are begun.
+    #[must_use]
     pub fn authentication(&self) -> AuthenticationAlgorithm {
         certain(self.into_suite()[0].try_into())
     }
 
     /// How its packets are sealed.
+    #[must_use]
     pub fn integrity(&self) -> IntegrityAlgorithm {
         certain(self.into_suite()[1].try_into())
     }
 
     /// How its packets are kept secret.
+    #[must_use]
     pub fn confidentiality(&self) -> ConfidentialityAlgorithm {
         certain(self.into_suite()[2].try_into())
     }

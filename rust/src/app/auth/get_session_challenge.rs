@@ -1,4 +1,4 @@
-//! Get Session Challenge, 39h.
+//! Get Session Challenge, 39h. Reference: IPMI 2.0, 22.16.
 
 use super::AuthType;
 use crate::connection::{IpmiCommand, Message};
@@ -10,15 +10,30 @@ use std::num::NonZeroU32;
 /// How many bytes a user name has, zeros behind it among them.
 const NAME: usize = 16;
 
-/// Asks for a challenge, by which a session is begun.
-#[derive(Clone, Copy, Debug, PartialEq, Eq)]
+/// Asks for a challenge, by which a session is begun. Reference: IPMI 2.0, 22.16.
+///
+/// ```
+/// use ghjalvestru::app::auth::{AuthType, GetSessionChallenge};
+/// use ghjalvestru::connection::Message;
+/// use ghjalvestru::Error;
+///
+/// let message: Message = GetSessionChallenge::new(AuthType::MD5, Some("admin"))?.into();
+/// assert_eq!((message.cmd(), message.data()), (0x39, &b"\x02admin\0\0\0\0\0\0\0\0\0\0\0"[..]));
+/// assert_eq!(GetSessionChallenge::new(AuthType::MD5, Some("seventeen letters")), Err(Error::LongName));
+/// # Ok::<(), Error>(())
+/// ```
+#[derive(Clone, Copy, Debug, PartialEq, Eq, Hash)]
 pub struct GetSessionChallenge {
     auth_type: AuthType,
     username: [u8; NAME],
 }
 
 impl GetSessionChallenge {
-    /// For this type and user; refuses [`Error::LongName`] above sixteen bytes.
+    /// For this type and user.
+    ///
+    /// # Errors
+    ///
+    /// [`Error::LongName`] above sixteen bytes.
     pub fn new(auth_type: AuthType, username: Option<&str>) -> Result<Self, Error> {
         let name = username.unwrap_or_default().as_bytes();
         let [_, username @ ..] = request(auth_type, name)?;
@@ -29,15 +44,17 @@ impl GetSessionChallenge {
     }
 
     /// The authentication type.
+    #[must_use]
     pub fn auth_type(&self) -> AuthType {
         self.auth_type
     }
 
     /// The name, up to its first zero, since the command pads it with zeros.
+    #[must_use]
     pub fn username(&self) -> &str {
         let mut parts = self.username.split(|&byte| byte == 0);
         // It was a `str`, and a zero is a character by itself.
-        std::str::from_utf8(parts.next().unwrap_or_default()).unwrap_or_default()
+        certain(std::str::from_utf8(parts.next().unwrap_or_default()))
     }
 }
 
@@ -59,8 +76,18 @@ impl IpmiCommand for GetSessionChallenge {
     }
 }
 
-/// A challenge.
-#[derive(Clone, Copy, Debug, PartialEq, Eq)]
+/// A challenge. Reference: IPMI 2.0, 22.16.
+///
+/// ```
+/// use ghjalvestru::app::auth::SessionChallenge;
+/// use ghjalvestru::Error;
+///
+/// let challenge = SessionChallenge::parse(&[7; 20])?;
+/// assert_eq!((challenge.temporary_session_id.get(), challenge.challenge_string), (0x07070707, [7; 16]));
+/// assert_eq!(SessionChallenge::parse(&[0; 20]), Err(Error::InvalidZeroSession));
+/// # Ok::<(), Error>(())
+/// ```
+#[derive(Clone, Copy, Debug, PartialEq, Eq, Hash)]
 pub struct SessionChallenge {
     /// The session's number until it is begun.
     pub temporary_session_id: NonZeroU32,
@@ -69,7 +96,11 @@ pub struct SessionChallenge {
 }
 
 impl SessionChallenge {
-    /// Reads a response; refuses [`Error::NotEnoughData`], then [`Error::InvalidZeroSession`].
+    /// Reads a response.
+    ///
+    /// # Errors
+    ///
+    /// [`Error::NotEnoughData`] where it is not twenty bytes, then [`Error::InvalidZeroSession`].
     pub fn parse(data: &[u8]) -> Result<Self, Error> {
         let [a, b, c, d, challenge_string @ ..] = record::<20>(|out| sys::challenge(data, out))?;
         let id = u32::from_le_bytes([a, b, c, d]);

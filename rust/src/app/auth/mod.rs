@@ -23,7 +23,19 @@ use crate::sys;
 use std::cmp::Ordering;
 use std::fmt;
 
-/// An authentication type. Its text is its name.
+/// An authentication type. Its text is its name. Reference: IPMI 2.0, 13.6.
+///
+/// Types do not compare by `<`: the order of their numbers is not that of their strength.
+///
+/// ```
+/// use ghjalvestru::app::auth::AuthType;
+/// use std::cmp::Ordering;
+///
+/// assert_eq!(AuthType::try_from(0x12), Ok(AuthType::MD5));
+/// assert_eq!(AuthType::try_from(0x03), Err(()));
+/// assert_eq!(AuthType::MD2.compare_strength(&AuthType::Key), Ordering::Greater);
+/// assert_eq!(AuthType::MD5.to_string(), "MD5");
+/// ```
 #[derive(Clone, Copy, Debug, PartialEq, Eq, Hash)]
 #[allow(missing_docs)] // The standard's names.
 pub enum AuthType {
@@ -35,6 +47,7 @@ pub enum AuthType {
 
 impl AuthType {
     /// [`Ordering::Greater`] where this type is the stronger one. Weakest first: None, Key, MD2, MD5.
+    #[must_use]
     pub fn compare_strength(&self, other: &Self) -> Ordering {
         let number = sys::compare_strength((*self).into(), (*other).into());
         certain(accepted(number)).cmp(&1)
@@ -73,8 +86,16 @@ impl fmt::Display for AuthType {
     }
 }
 
-/// The privilege level of a session.
-#[derive(Clone, Copy, Debug, PartialEq, Eq, Hash)]
+/// The privilege level of a session. Reference: IPMI 2.0, 6.8.
+///
+/// ```
+/// use ghjalvestru::app::auth::PrivilegeLevel;
+///
+/// assert_eq!(PrivilegeLevel::try_from(0xF4), Ok(PrivilegeLevel::Administrator));
+/// assert_eq!(PrivilegeLevel::try_from(0x06), Err(()));
+/// assert!(PrivilegeLevel::User < PrivilegeLevel::Operator);
+/// ```
+#[derive(Clone, Copy, Debug, PartialEq, Eq, PartialOrd, Ord, Hash)]
 #[allow(missing_docs)] // The standard's names; the last is spelt as in the crate ipmi-rs-core.
 pub enum PrivilegeLevel {
     Callback,

@@ -2,11 +2,12 @@
 //!
 //! A record is C0h and a suite number, or C1h, a number and a vendor's number; then one authentication byte, any integrity
 //! bytes, any confidentiality bytes. Exactly the sequences of such records are accepted, the empty one too. The crate
-//! ipmi-rs-core knows five-byte records alone; [`ChannelCipherSuites::parse_full_data`] reads as it does.
+//! ipmi-rs-core knows five-byte records alone; [`ChannelCipherSuites::parse_full_data`] reads as it does. Reference: IPMI 2.0,
+//! Table 22-18.
 //!
 //! [`ChannelCipherSuites::parse_full_data`]: super::ChannelCipherSuites::parse_full_data
 
-use crate::number::{accepted, certain, record};
+use crate::number::{certain, length, record};
 use crate::sys::{self, LISTED, TAGGED};
 use crate::Error;
 use std::iter::FusedIterator;
@@ -16,7 +17,7 @@ use std::slice;
 const HEAD: usize = 6;
 
 /// Whose suite a record is.
-#[derive(Clone, Copy, Debug, PartialEq, Eq, Hash)]
+#[derive(Clone, Copy, Debug, PartialEq, Eq, PartialOrd, Ord, Hash)]
 pub enum Owner {
     /// The standard's.
     Standard,
@@ -42,8 +43,8 @@ impl Owner {
     }
 }
 
-/// A record of a lent list.
-#[derive(Clone, Copy, Debug, PartialEq, Eq)]
+/// A record of a lent list, which [`TaggedRecords`] gives.
+#[derive(Clone, Copy, Debug, PartialEq, Eq, Hash)]
 pub struct TaggedRecord<'a> {
     /// Whose suite it is.
     pub owner: Owner,
@@ -57,11 +58,13 @@ pub struct TaggedRecord<'a> {
 
 impl<'a> TaggedRecord<'a> {
     /// The numbers of its integrity algorithms, each below 64.
+    #[must_use]
     pub fn integrity(&self) -> Numbers<'a> {
         Numbers(self.integrity.iter())
     }
 
     /// The numbers of its confidentiality algorithms, each below 64.
+    #[must_use]
     pub fn confidentiality(&self) -> Numbers<'a> {
         Numbers(self.confidentiality.iter())
     }
@@ -124,6 +127,7 @@ pub struct TaggedRecords<'a> {
 
 impl<'a> TaggedRecords<'a> {
     /// Of a whole list.
+    #[must_use]
     pub fn new(list: &'a [u8]) -> Self {
         let position = Some(0);
         Self { list, position }
@@ -136,7 +140,7 @@ impl<'a> TaggedRecords<'a> {
 
     fn step(&mut self, position: usize) -> Result<Option<TaggedRecord<'a>>, Error> {
         let mut out = [0; TAGGED];
-        if accepted(sys::tagged_step(self.list, position, &mut out))? == 0 {
+        if length(sys::tagged_step(self.list, position, &mut out))? == 0 {
             return Ok(None);
         }
         let [number, own, low, middle, high, authentication, ..] = out;
@@ -169,7 +173,7 @@ impl<'a> Iterator for TaggedRecords<'a> {
 
 impl FusedIterator for TaggedRecords<'_> {}
 
-/// The suite numbers of all records of a list, in order; refuses [`Error::BadRecord`] with the place.
+/// The suite numbers of all records of a list, in order.
 ///
 /// Where all records are standard ones with a number of the table and one algorithm of each kind, these are the numbers of
 /// [`ChannelCipherSuites::parse_full_data`].
@@ -182,10 +186,14 @@ impl FusedIterator for TaggedRecords<'_> {}
 /// assert_eq!(suite_numbers(&[0xC0, 0x03, 0x01, 0x00]), Err(Error::BadRecord(3)));
 /// ```
 ///
+/// # Errors
+///
+/// [`Error::BadRecord`] with the place.
+///
 /// [`ChannelCipherSuites::parse_full_data`]: super::ChannelCipherSuites::parse_full_data
 pub fn suite_numbers(list: &[u8]) -> Result<Vec<u8>, Error> {
-    let mut numbers = vec![0; count(list)?];
-    accepted(sys::tagged_numbers(list, &mut numbers))?;
+    let mut numbers = vec![0; length(sys::tagged_count(list))?];
+    length(sys::tagged_numbers(list, &mut numbers))?;
     Ok(numbers)
 }
 
@@ -198,19 +206,18 @@ pub fn suite_numbers(list: &[u8]) -> Result<Vec<u8>, Error> {
 /// let listing = suite_listing(&[0xC0, 0x03, 0x01, 0xC1, 0x80, 0xF2, 0x1B, 0x00, 0x03]);
 /// assert_eq!(listing, Ok(vec![(0x03, Owner::Standard), (0x80, Owner::Vendor(7154))]));
 /// ```
+///
+/// # Errors
+///
+/// [`Error::BadRecord`] with the place.
 pub fn suite_listing(list: &[u8]) -> Result<Vec<(u8, Owner)>, Error> {
-    let mut listing = vec![[0; LISTED]; count(list)?];
-    accepted(sys::tagged_listing(list, listing.as_flattened_mut()))?;
+    let mut listing = vec![[0; LISTED]; length(sys::tagged_count(list))?];
+    length(sys::tagged_listing(list, listing.as_flattened_mut()))?;
     let entry = |[number, own, vendor @ ..]: [u8; LISTED]| (number, Owner::new(own, vendor));
     Ok(listing.into_iter().map(entry).collect())
 }
 
-fn count(list: &[u8]) -> Result<usize, Error> {
-    Ok(accepted(sys::tagged_count(list))? as usize)
-}
-
-/// The bytes of a record, its algorithms given by their numbers. Refuses [`Error::NoForm`] where one of these is above 63 or
-/// the vendor's number is 2 to the power of 24 or more.
+/// The bytes of a record, its algorithms given by their numbers.
 ///
 /// ```
 /// use ghjalvestru::app::auth::tagged_records::write;
@@ -220,6 +227,10 @@ fn count(list: &[u8]) -> Result<usize, Error> {
 /// assert_eq!(write(Owner::Standard, 3, 1, &[1], &[1]), Ok(vec![0xC0, 0x03, 0x01, 0x41, 0x81]));
 /// assert_eq!(write(Owner::Standard, 3, 64, &[], &[]), Err(Error::NoForm));
 /// ```
+///
+/// # Errors
+///
+/// [`Error::NoForm`] where an algorithm's number is above 63 or the vendor's number is 2 to the power of 24 or more.
 pub fn write(
     owner: Owner,
     number: u8,
@@ -229,7 +240,7 @@ pub fn write(
 ) -> Result<Vec<u8>, Error> {
     let (own, vendor) = owner.parts();
     let mut out = vec![0; HEAD + integrity.len() + confidentiality.len()];
-    let length = accepted(sys::tagged_write(
+    let written = length(sys::tagged_write(
         own,
         vendor,
         number,
@@ -238,7 +249,7 @@ pub fn write(
         confidentiality,
         &mut out,
     ))?;
-    out.truncate(length as usize);
+    out.truncate(written);
     Ok(out)
 }
 
