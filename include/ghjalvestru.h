@@ -345,7 +345,8 @@ struct ghj_activation_record {
 };
 
 /* Get Channel Cipher Suites, 54h. The part of the list that the answer has, 0 to 16 bytes. GHJ_TOO_MUCH_DATA above
- * GHJ_PART_SIZE. */
+ * GHJ_PART_SIZE. As in the Rust crate the whole response counts as list bytes: a controller's own answer begins with its
+ * channel, which the caller leaves out. */
 uint64_t ghj_suites(const uint8_t *response, size_t response_length, uint8_t *out, size_t out_length);
 
 /* Texts, without a zero behind: the number is their length, which is below GHJ_TEXT_SIZE. GHJ_NO_ROOM alone where nothing

@@ -66,7 +66,8 @@ impl Collector {
         Self::default()
     }
 
-    /// Takes the answer to an index: the whole response data. A refusal changes nothing.
+    /// Takes the answer to an index: the whole response data, as ipmi-rs-core reads it. A controller's own answer begins with
+    /// its channel, which this reading would take for a byte of the list: leave it out. A refusal changes nothing.
     ///
     /// # Errors
     ///
