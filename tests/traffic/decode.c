@@ -1,4 +1,4 @@
-/* Reads lines and prints what the port says to each: bytes in hex, or `refused`, the number and what it carries.
+/* Reads lines and prints what the port says to each: bytes in hex, or `refused`, the number and what it carries, or `none`.
  *     response COMMAND DATA     the record of a response with these data
  *     request COMMAND PARTS     the request that is made of these parts, in the order of the C function's arguments
  *     read COMMAND DATA         the parts of a request with these data
@@ -95,6 +95,10 @@ int main(void) {
         uint64_t said = answer(what, command, bytes, length, out, sizeof out);
         if (GHJ_IS_REFUSED(said)) {
             printf("refused %u %" PRIu64 "\n", GHJ_REFUSAL(said), GHJ_CARRIED(said));
+            continue;
+        }
+        if (said == GHJ_NONE) {
+            puts("none");
             continue;
         }
         for (size_t i = 0; i < said; i++)

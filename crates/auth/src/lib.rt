@@ -35,7 +35,7 @@ impl AuthType {
     pub fn try_from(value: u8) -> AuthTypeAnswer
         ensures { λ r. ⌜ saidAuthType r ≡ accepted (authTypeOf value) ⌝ }
     {
-        Self::numbered(bits(value, 0, 4))
+        AuthType::numbered(bits(value, 0, 4))
     }
 
     // The whole number counts, as in what a command writes.
@@ -138,7 +138,7 @@ impl PrivilegeLevel {
     pub fn try_from(value: u8) -> PrivilegeAnswer
         ensures { λ r. ⌜ saidPrivilege r ≡ accepted (privilegeOf value) ⌝ }
     {
-        Self::numbered(bits(value, 0, 4))
+        PrivilegeLevel::numbered(bits(value, 0, 4))
     }
 
     // The whole number counts, as in what a command writes.
