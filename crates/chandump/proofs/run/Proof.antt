@@ -19,16 +19,24 @@ begun-requires : tie.Need-begun-requires Inv-loop μ-loop
 begun-requires c κs = search needs
 
 loop-holds : tie.Need-loop-holds Inv-loop μ-loop
-loop-holds c = ?
+loop-holds c =
+    let u = c .before .before in
+    let s = u .before .before .before .before in
+    (λ h. ready-first (s .pre .0) (s .pre .1 .0) (omega (arith, u .begun .kept .0, s .pre .1 .1)), (refl, refl))
 
 once-requires : tie.Need-once-requires Inv-loop μ-loop
-once-requires c κs = ?
+once-requires c κs =
+    let i = c .before .before .before .before in
+    (i .before .before .loop .inv .0 (i .if1 .taken), i .if1 .taken)
 
 loop-less : tie.Need-loop-less Inv-loop μ-loop
 loop-less c = search needs
 
 loop-again : tie.Need-loop-again Inv-loop μ-loop
-loop-again c = ?
+loop-again c =
+    let o = c .before .before .before .before in
+    let l = o .before .before .before .before .before .before .before in
+    (o .once .ensures .0, (omega (arith, o .once .kept .1 .1 .1 .0, l .loop .inv .1 .0), omega (arith, o .once .kept .1 .1 .1 .1 .0, l .loop .inv .1 .1)))
 
 same-length : tie.Need-same-length Inv-loop μ-loop
 same-length c = search needs
