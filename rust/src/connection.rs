@@ -104,7 +104,7 @@ impl fmt::Display for Channel {
 }
 
 /// The network function of all commands of this crate: App, in requests. Reference: IPMI 2.0, 5.1, Table 5-1.
-const APP: u8 = 0x06;
+pub(crate) const APP: u8 = 0x06;
 
 /// A request: what is sent for a command, by a transport of the caller's.
 ///

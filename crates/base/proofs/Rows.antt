@@ -32,9 +32,6 @@ pub record Strict {A : Type 0} (read : List ℕ → Outcome A) (Wrote : A → Li
   -- 10 for "bytes that no command of its kind writes", exactly then
   pub ten : (s : List ℕ) → Bytes s → read s ≡ refused 10 [] ↔ ((k : A) → Wrote k s → ⊥)
 
-asked : {A : Type 0} (width : ℕ) (s : List ℕ) {x : Outcome A} {k : A} → request width s x ≡ accepted k → (length s ≡ width) × (x ≡ accepted k)
-asked width s {x} e = let (p, f) = when 10 (eqb (length s) width) e in (eqb-true (length s) width p, unfaulted 10 x f)
-
 only-ten : {A : Type 0} (width : ℕ) (s : List ℕ) (x : Outcome A) → Only 10 (request width s x)
 only-ten {A} width s x = go (eqb (length s) width) x
   where
@@ -42,6 +39,9 @@ only-ten {A} width s x = go (eqb (length s) width) x
     go false y = refl
     go true (accepted a) = refl
     go true (refused n v) = refl
+
+asked : {A : Type 0} (width : ℕ) (s : List ℕ) {x : Outcome A} {k : A} → request width s x ≡ accepted k → (length s ≡ width) × (x ≡ accepted k)
+asked width s {x} e = let (p, f) = when 10 (eqb (length s) width) e in (eqb-true (length s) width p, unfaulted 10 x f)
 
 -- Of a request's fields: those that are read are what some command writes, and what a command writes has the width and is read.
 pub strict : {A : Type 0} (width : ℕ) (fields : List ℕ → Outcome A) (Wrote : A → List ℕ → Type 0)

@@ -22,6 +22,9 @@ pub struct GetChannelAccess {
 }
 
 impl GetChannelAccess {
+    /// The command's number.
+    pub const COMMAND: u8 = 0x41;
+
     /// For the settings of this type.
     #[must_use]
     pub fn new(channel: Channel, access_type: ChannelAccessType) -> Self {
@@ -52,7 +55,7 @@ impl From<GetChannelAccess> for Message {
         };
         let channel = command.channel.value();
         let data = record::<2>(|out| sys::access_request(channel, kind, out));
-        Message::request(0x41, certain(data))
+        Message::request(GetChannelAccess::COMMAND, certain(data))
     }
 }
 

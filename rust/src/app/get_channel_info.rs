@@ -20,6 +20,9 @@ pub struct GetChannelInfo {
 }
 
 impl GetChannelInfo {
+    /// The command's number.
+    pub const COMMAND: u8 = 0x42;
+
     /// For this channel.
     #[must_use]
     pub fn new(channel: Channel) -> Self {
@@ -30,7 +33,7 @@ impl GetChannelInfo {
 impl From<GetChannelInfo> for Message {
     fn from(command: GetChannelInfo) -> Self {
         let data = record::<1>(|out| sys::info_request(command.channel.value(), out));
-        Message::request(0x42, certain(data))
+        Message::request(GetChannelInfo::COMMAND, certain(data))
     }
 }
 

@@ -74,6 +74,9 @@ pub struct SetChannelAccess {
 }
 
 impl SetChannelAccess {
+    /// The command's number.
+    pub const COMMAND: u8 = 0x40;
+
     /// For this channel: where the mode and the three flags of `access` go, and where its limit goes. A part that is marked
     /// [`AccessPair::Leave`] is written and read, and changes nothing.
     ///
@@ -160,7 +163,7 @@ impl SetChannelAccess {
 
 impl From<SetChannelAccess> for Message {
     fn from(command: SetChannelAccess) -> Self {
-        Message::request(0x40, certain(command.request()))
+        Message::request(SetChannelAccess::COMMAND, certain(command.request()))
     }
 }
 

@@ -40,6 +40,11 @@ pub struct ActivateSession {
     pub initial_sequence_number: u32,
 }
 
+impl ActivateSession {
+    /// The command's number.
+    pub const COMMAND: u8 = 0x3A;
+}
+
 impl From<ActivateSession> for Message {
     fn from(command: ActivateSession) -> Self {
         let auth_type = command.auth_type.into();
@@ -48,7 +53,7 @@ impl From<ActivateSession> for Message {
         let sequence = command.initial_sequence_number;
         let data =
             record::<22>(|out| sys::activation_request(auth_type, level, challenge, sequence, out));
-        Message::request(0x3A, certain(data))
+        Message::request(ActivateSession::COMMAND, certain(data))
     }
 }
 

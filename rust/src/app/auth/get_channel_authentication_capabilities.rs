@@ -24,6 +24,9 @@ pub struct GetChannelAuthenticationCapabilities {
 }
 
 impl GetChannelAuthenticationCapabilities {
+    /// The command's number.
+    pub const COMMAND: u8 = 0x38;
+
     /// For this channel and level.
     #[must_use]
     pub fn new(channel_number: Channel, privilege_level: PrivilegeLevel) -> Self {
@@ -39,7 +42,7 @@ impl From<GetChannelAuthenticationCapabilities> for Message {
         let channel = command.channel_number.value();
         let level = command.privilege_level.into();
         let data = record::<2>(|out| sys::capabilities_request(channel, level, out));
-        Message::request(0x38, certain(data))
+        Message::request(GetChannelAuthenticationCapabilities::COMMAND, certain(data))
     }
 }
 

@@ -29,6 +29,9 @@ pub struct GetChannelCipherSuites {
 }
 
 impl GetChannelCipherSuites {
+    /// The command's number.
+    pub const COMMAND: u8 = 0x54;
+
     /// For the part of this index.
     ///
     /// # Errors
@@ -49,7 +52,8 @@ fn request(channel: Channel, list_index: u8) -> Result<[u8; 3], Error> {
 
 impl From<GetChannelCipherSuites> for Message {
     fn from(command: GetChannelCipherSuites) -> Self {
-        Message::request(0x54, certain(request(command.channel, command.list_index)))
+        let data = request(command.channel, command.list_index);
+        Message::request(GetChannelCipherSuites::COMMAND, certain(data))
     }
 }
 

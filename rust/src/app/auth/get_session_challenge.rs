@@ -29,6 +29,9 @@ pub struct GetSessionChallenge {
 }
 
 impl GetSessionChallenge {
+    /// The command's number.
+    pub const COMMAND: u8 = 0x39;
+
     /// For this type and user.
     ///
     /// # Errors
@@ -64,7 +67,8 @@ fn request(auth_type: AuthType, name: &[u8]) -> Result<[u8; 1 + NAME], Error> {
 
 impl From<GetSessionChallenge> for Message {
     fn from(command: GetSessionChallenge) -> Self {
-        Message::request(0x39, certain(request(command.auth_type, &command.username)))
+        let data = request(command.auth_type, &command.username);
+        Message::request(GetSessionChallenge::COMMAND, certain(data))
     }
 }
 
