@@ -1,8 +1,8 @@
 // The functions by their numbers: tests/oracle/README.md and tests/model/README.md have a row for each. A question of any other
 // number, or with another number of arguments, is refused 14.
 ghost use Prim.Native.Nat.{_<_};
-use crate::leaves::authentication;
 use crate::leaves::auth_type;
+use crate::leaves::authentication;
 use crate::leaves::channel;
 use crate::leaves::channel_number;
 use crate::leaves::confidentiality;

@@ -45,11 +45,7 @@ fn asked(question: &[u8], lent: &mut [u8]) -> Said {
         return alone(BAD);
     }
     Said {
-        number: call(
-            question[0],
-            &question[ARGUMENTS..],
-            &mut lent[0..room],
-        ),
+        number: call(question[0], &question[ARGUMENTS..], &mut lent[0..room]),
         room,
     }
 }
