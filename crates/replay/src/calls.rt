@@ -1,6 +1,11 @@
 // The functions by their numbers: tests/oracle/README.md and tests/model/README.md have a row for each. A question of any other
 // number, or with another number of arguments, is refused 14.
-ghost use Prim.Native.Nat.{_<_};
+use crate::arguments::activation_request;
+use crate::arguments::set_access_apply;
+use crate::arguments::set_access_request;
+use crate::arguments::suite_of;
+use crate::arguments::tagged_step;
+use crate::arguments::tagged_write;
 use crate::leaves::auth_type;
 use crate::leaves::authentication;
 use crate::leaves::channel;
@@ -29,11 +34,8 @@ use crate::responses::suites_part;
 use crate::responses::suites_written;
 use crate::settings::set_applied;
 use crate::settings::set_written;
-use base::little::number3;
-use base::little::number4;
 use base::refusal::Refusal;
 use base::written::Written;
-use base::written::place;
 use capi::display::ghj_auth_type_name;
 use capi::display::ghj_channel_text;
 use capi::display::ghj_limit_text;
@@ -43,7 +45,6 @@ use capi::display::ghj_protocol_text;
 use capi::display::ghj_session_support_text;
 use capi::list::ghj_suite_numbers;
 use capi::requests::ghj_access_request;
-use capi::requests::ghj_activation_request;
 use capi::requests::ghj_capabilities_request;
 use capi::requests::ghj_challenge_request;
 use capi::requests::ghj_info_request;
@@ -55,15 +56,10 @@ use capi::responses::ghj_challenge;
 use capi::responses::ghj_info;
 use capi::responses::ghj_suites;
 use capi::settings::ghj_set_access;
-use capi::settings::ghj_set_access_apply;
-use capi::settings::ghj_set_access_request;
 use capi::strength::ghj_compare_strength;
 use capi::table::ghj_suite_algorithms;
-use capi::table::ghj_suite_of;
 use capi::tagged_records::ghj_tagged_listing;
 use capi::tagged_records::ghj_tagged_numbers;
-use capi::tagged_records::ghj_tagged_step;
-use capi::tagged_records::ghj_tagged_write;
 
 // Refusal 14, as C gets it.
 pub(crate) const BAD: u64 = 0x8000_0000_0000_000E;
@@ -87,6 +83,7 @@ pub(crate) fn code(written: Written) -> u64 {
     }
 }
 
+// Bytes, those of a response or of a list.
 fn of_response(f: u8, a: &[u8], out: &mut [u8]) -> u64 {
     match f {
         0x01 => ghj_access(a, out),
@@ -108,6 +105,7 @@ fn of_response(f: u8, a: &[u8], out: &mut [u8]) -> u64 {
     }
 }
 
+// Bytes, those of a request.
 fn of_request(f: u8, a: &[u8], out: &mut [u8]) -> u64 {
     match f {
         0x10 => access_read(a),
@@ -120,6 +118,7 @@ fn of_request(f: u8, a: &[u8], out: &mut [u8]) -> u64 {
     }
 }
 
+// A number, with lent bytes.
 fn of_number(f: u8, n: u8, out: &mut [u8]) -> u64 {
     match f {
         0x20 => ghj_channel_text(n, out),
@@ -135,6 +134,7 @@ fn of_number(f: u8, n: u8, out: &mut [u8]) -> u64 {
     }
 }
 
+// A number alone.
 fn of_leaf(f: u8, n: u8) -> u64 {
     match f {
         0x30 => channel_number(n),
@@ -152,6 +152,7 @@ fn of_leaf(f: u8, n: u8) -> u64 {
     }
 }
 
+// Two numbers.
 fn of_two(f: u8, n: u8, m: u8, out: &mut [u8]) -> u64 {
     match f {
         0x40 => ghj_access_request(n, m, out),
@@ -162,28 +163,7 @@ fn of_two(f: u8, n: u8, m: u8, out: &mut [u8]) -> u64 {
     }
 }
 
-fn sixteen(a: &[u8]) -> [u8; 16] {
-    let mut bytes = [0u8; 16];
-    place(a, &mut bytes);
-    bytes
-}
-
-fn activation_request(a: &[u8], out: &mut [u8]) -> u64 {
-    if a.len() != 22 {
-        return BAD;
-    }
-    let challenge = sixteen(&a[2..18]);
-    let sequence = number4(a[18], a[19], a[20], a[21]);
-    ghj_activation_request(a[0], a[1], &challenge, sequence, out)
-}
-
-fn suite_of(a: &[u8]) -> u64 {
-    if a.len() != 3 {
-        return BAD;
-    }
-    ghj_suite_of(a[0], a[1], a[2])
-}
-
+// At least one byte, of other shapes.
 fn of_some(f: u8, a: &[u8], out: &mut [u8]) -> u64 {
     if a.len() == 0 {
         return BAD;
@@ -197,70 +177,7 @@ fn of_some(f: u8, a: &[u8], out: &mut [u8]) -> u64 {
     }
 }
 
-fn five(a: &[u8]) -> [u8; 5] {
-    let mut bytes = [0u8; 5];
-    place(a, &mut bytes);
-    bytes
-}
-
-pub(crate) fn ten(a: &[u8]) -> [u8; 10] {
-    let mut bytes = [0u8; 10];
-    place(a, &mut bytes);
-    bytes
-}
-
-fn set_access_request(a: &[u8], out: &mut [u8]) -> u64 {
-    if a.len() != 8 {
-        return BAD;
-    }
-    let access = five(&a[3..8]);
-    ghj_set_access_request(a[0], a[1], a[2], &access, out)
-}
-
-fn set_access_apply(a: &[u8], out: &mut [u8]) -> u64 {
-    if a.len() != 17 {
-        return BAD;
-    }
-    let access = five(&a[2..7]);
-    let settings = ten(&a[7..17]);
-    ghj_set_access_apply(a[0], a[1], &access, &settings, out)
-}
-
-fn tagged_step(a: &[u8], out: &mut [u8]) -> u64 {
-    if a.len() < 2 {
-        return BAD;
-    }
-    ghj_tagged_step(&a[2..], number3(a[0], a[1], 0) as usize, out)
-}
-
-pub(crate) fn wide(byte: u8) -> usize
-    ensures { λ r. ⌜ r < 256 ⌝ }
-{
-    byte as usize
-}
-
-// The record of the eight bytes before the algorithms' numbers.
-fn tagged_record(a: &[u8], integrity: &[u8], confidentiality: &[u8], out: &mut [u8]) -> u64 {
-    if a.len() != 8 {
-        return BAD;
-    }
-    let vendor = number4(a[1], a[2], a[3], a[4]);
-    ghj_tagged_write(a[0], vendor, a[5], a[6], integrity, confidentiality, out)
-}
-
-// The eighth byte says how many of the numbers behind it are those of the integrity.
-fn tagged_write(a: &[u8], out: &mut [u8]) -> u64 {
-    if a.len() < 8 {
-        return BAD;
-    }
-    let end = 8 + wide(a[7]);
-    if a.len() < end {
-        return BAD;
-    }
-    tagged_record(&a[0..8], &a[8..end], &a[end..], out)
-}
-
-// What the models answer.
+// All that tests/model answers.
 fn of_model(f: u8, a: &[u8], out: &mut [u8]) -> u64 {
     match f {
         0x80 => set_access_request(a, out),

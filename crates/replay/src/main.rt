@@ -11,6 +11,7 @@ use libc::STDIN_FILENO;
 use libc::STDOUT_FILENO;
 use lines::newline_from;
 
+mod arguments;
 mod calls;
 mod leaves;
 mod question;
@@ -48,6 +49,7 @@ fn told(bytes: &[u8], text: &mut [u8]) {
     io::write_all(STDOUT_FILENO, text);
 }
 
+// The tests hold in every run; they are there so that nothing has to be proved of the numbers.
 fn shown(number: u64, lent: &[u8], room: usize) {
     let mut pairs = [0u8; 24];
     told(&bytes8(number as usize), &mut pairs);
@@ -64,6 +66,7 @@ fn answered(line: &[u8]) {
     let said = answer(line, &mut lent);
     shown(said.number, &lent, said.room);
 }
+
 // What a block has of a line goes behind what is held of it. A line that fills all of `line` is too long for a question,
 // whatever is left out of it: 4,096 bytes are no hex pairs.
 fn held(part: &[u8], used: usize, line: &mut [u8]) -> usize {

@@ -2,9 +2,9 @@
 ghost use Prim.Native.Nat.{_<_};
 use crate::FILL;
 use crate::LENT;
+use crate::arguments::wide;
 use crate::calls::BAD;
 use crate::calls::call;
-use crate::calls::wide;
 use base::little::bytes8;
 use base::little::number3;
 use base::written::Written;

@@ -1,8 +1,8 @@
 // A request of Set Channel Access read, and written again or applied.
+use crate::arguments::ten;
 use crate::calls::BAD;
 use crate::calls::code;
 use crate::calls::refused;
-use crate::calls::ten;
 use base::refusal::Refusal;
 use layouts::settings_layout;
 use layouts::settings_record;

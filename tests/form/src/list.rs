@@ -55,6 +55,15 @@ impl List {
         self.lines.push(Asked::One(question).line());
     }
 
+    /// With no room, one byte too few and just enough for a message of so many.
+    pub fn scarce(&mut self, name: &str, arguments: &[u8], length: usize) {
+        let mut question = self.question(name, arguments);
+        for room in [0, length - 1, length] {
+            question.room = room as u16;
+            self.lines.push(Asked::One(question.clone()).line());
+        }
+    }
+
     /// Every value of one argument, while the others stay.
     pub fn sweep(&mut self, name: &str, arguments: &[u8], place: usize) {
         self.sweep_over(name, arguments, place, 1, &[]);

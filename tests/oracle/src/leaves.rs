@@ -77,9 +77,13 @@ pub fn questions(list: &mut List) {
     for (name, text) in BAD {
         list.text(name, text);
     }
-    // No such function, and no line.
+    // No such function, no line, more lent than can be, as long as a line can be
+    // and longer.
     list.line(" 70 00 00 00");
     list.line("");
+    list.line(" 31 01 08 00");
+    list.line(&" 00".repeat(1365));
+    list.line(&" 00".repeat(1366));
 }
 
 pub fn answer(name: &str, data: &[u8]) -> Option<Said> {

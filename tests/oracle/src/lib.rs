@@ -8,6 +8,7 @@ mod bytes;
 mod channel;
 pub mod differences;
 mod leaves;
+mod room;
 mod session;
 mod suites;
 mod traffic;
@@ -35,6 +36,7 @@ pub fn questions() -> Vec<String> {
     channel::questions(&mut list);
     session::questions(&mut list);
     suites::questions(&mut list);
+    room::questions(&mut list);
     traffic::questions(&mut list);
     list.lines
 }

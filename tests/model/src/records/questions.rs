@@ -101,6 +101,11 @@ pub fn questions(list: &mut List) {
     long_questions(list);
     list.heading("records with tags, written");
     write_questions(list, &mut random);
+    list.heading("records with tags, too little room, and just enough");
+    list.scarce("ghj_tagged_step", &[&[0, 0], &MIXED[..]].concat(), 32);
+    list.scarce("ghj_tagged_numbers", &MIXED, 3);
+    list.scarce("ghj_tagged_listing", &MIXED, 15);
+    list.scarce("ghj_tagged_write", &[0, 0, 0, 0, 0, 3, 1, 1, 1, 1], 5);
     list.heading("records with tags, bad questions");
     for (name, text) in BAD {
         list.text(name, text);

@@ -52,6 +52,13 @@ pub fn questions(list: &mut List) {
     request_questions(list, &mut random);
     list.heading("Set Channel Access, applied");
     apply_questions(list, &mut random);
+    list.heading("Set Channel Access, too little room, and just enough");
+    list.scarce("ghj_set_access_request", &[1, 0, 0, 2, 0, 0, 0, 4], 3);
+    list.scarce("ghj_set_access", &[0x01, 0x3F, 0x04], 8);
+    list.scarce("set_written", &[0x01, 0x3F, 0x04], 3);
+    let apply = [&[1, 2], &RECORDS[1][..], &BEFORE[1]].concat();
+    list.scarce("ghj_set_access_apply", &apply, 10);
+    list.scarce("set_applied", &applied(0x00), 10);
     list.heading("Set Channel Access, bad questions");
     wrong_lengths(list, "ghj_set_access_request", 8);
     wrong_lengths(list, "ghj_set_access_apply", 17);
