@@ -65,7 +65,7 @@ use capi::tagged_records::ghj_tagged_numbers;
 pub(crate) const BAD: u64 = 0x8000_0000_0000_000E;
 
 // GHJ_NONE.
-pub(crate) const NONE: u64 = 0x2_0000;
+pub(crate) const NONE: u64 = 0x4000_0000_0000_0000;
 
 // As C gets it. No refusal that is asked for here carries more than a byte.
 pub(crate) fn refused(refusal: Refusal) -> u64 {

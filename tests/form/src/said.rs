@@ -3,7 +3,7 @@
 use crate::FILL;
 
 /// "Answers none, which counts as accepted".
-const NONE: u64 = 1 << 17;
+const NONE: u64 = 1 << 62;
 
 const REFUSED: u64 = 1 << 63;
 

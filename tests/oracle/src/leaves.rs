@@ -5,13 +5,12 @@ use crate::app::auth::{
     AuthType, AuthenticationAlgorithm, ConfidentialityAlgorithm, IntegrityAlgorithm, PrivilegeLevel,
 };
 use crate::connection::{Channel, ChannelNumber, LogicalUnit};
-use replay_form::{none, number, refused, refused_with, written, List, Row, Said};
+use replay_form::{none, number, refused, written, List, Row, Said};
 use std::cmp::Ordering;
 use std::fmt::Debug;
 use std::num::NonZeroU8;
 
 pub const NO_CHANNEL: u8 = 6;
-pub const INVALID_AUTH_TYPE: u8 = 4;
 
 #[rustfmt::skip]
 pub const ROWS: [Row; 12] = [
@@ -102,7 +101,7 @@ pub fn answer(name: &str, data: &[u8]) -> Option<Said> {
         ("ghj_channel_text", &[number]) => channel(number, |channel| written(channel.to_string())),
         ("ghj_auth_type_name", &[number]) => match AuthType::try_from(number) {
             Ok(auth_type) => written(format!("{auth_type:?}")),
-            Err(()) => refused_with(INVALID_AUTH_TYPE, number.into()),
+            Err(()) => none(),
         },
         ("ghj_compare_strength", &[one, other]) => strength(one, other),
         _ => return None,
@@ -152,15 +151,12 @@ fn shown(name: &dyn Debug, value: u8, names: &[&str]) -> Said {
 }
 
 fn strength(one: u8, other: u8) -> Said {
-    let types = [one, other].map(|number| {
-        AuthType::try_from(number).map_err(|()| refused_with(INVALID_AUTH_TYPE, number.into()))
-    });
-    match types {
+    match [one, other].map(AuthType::try_from) {
         [Ok(one), Ok(other)] => number(match one.compare_strength(&other) {
             Ordering::Less => 0,
             Ordering::Equal => 1,
             Ordering::Greater => 2,
         }),
-        [Err(refused), _] | [_, Err(refused)] => refused,
+        _ => none(),
     }
 }

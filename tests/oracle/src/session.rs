@@ -8,11 +8,12 @@ use crate::app::auth::{
 use crate::bytes::Random;
 use crate::channel::{channels, not_enough, read, request, NOT_A_REQUEST, NOT_ENOUGH_DATA};
 use crate::connection::{IpmiCommand, Message};
-use crate::leaves::{channel, AUTH_TYPES, INVALID_AUTH_TYPE};
+use crate::leaves::{channel, AUTH_TYPES};
 use replay_form::{none, number, refused, refused_with, written, List, Row, Said};
 use std::fmt::Debug;
 
 const INVALID_ZERO_SESSION: u8 = 3;
+const INVALID_AUTH_TYPE: u8 = 4;
 const INVALID_PRIVILEGE_LEVEL: u8 = 5;
 const LONG_NAME: u8 = 8;
 
@@ -456,9 +457,9 @@ fn capabilities_commands() -> impl Iterator<Item = ([u8; 2], Message)> {
     })
 }
 
-/// The type of this number.
+/// The type of this number: a number that names nothing answers none.
 fn type_of(number: u8) -> Result<AuthType, Said> {
-    AuthType::try_from(number).map_err(|()| refused_with(INVALID_AUTH_TYPE, number.into()))
+    AuthType::try_from(number).map_err(|()| none())
 }
 
 /// The level of exactly this number: the crate looks at the low nibble alone,
@@ -466,7 +467,7 @@ fn type_of(number: u8) -> Result<AuthType, Said> {
 fn level_of(number: u8) -> Result<PrivilegeLevel, Said> {
     match PrivilegeLevel::try_from(number) {
         Ok(level) if u8::from(level) == number => Ok(level),
-        _ => Err(refused_with(INVALID_PRIVILEGE_LEVEL, number.into())),
+        _ => Err(none()),
     }
 }
 

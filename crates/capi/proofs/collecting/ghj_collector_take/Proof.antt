@@ -48,12 +48,12 @@ use Rattle.collector.proofs.answer_lent.Symbol.{name as #g}
 use Rattle.collector.proofs.answer_lent.Met as g-thm
 use Rattle.capi.specs.Number.{Takes, code as coded, plain as alone}
 use Rattle.capi.proofs.Laws.{taking-coded}
-use Rattle.capi.proofs.verdict_code as k
+use Rattle.capi.proofs.number.verdict_code as k
 use Rattle.capi.proofs.number.verdict_code.Symbol as k-def
 use Rattle.capi.proofs.number.verdict_code.Symbol.{name as #k}
 use Rattle.capi.proofs.number.verdict_code.Met as k-thm
 use Rattle.capi.proofs.collecting.ghj_collector_take.Key.{name as #f}
-use Rattle.capi.proofs.ghj_collector_take as f
+use Rattle.capi.proofs.collecting.ghj_collector_take as f
 use Rattle.capi.proofs.collecting.ghj_collector_take.Statement as stated
 use Rattle.capi.proofs.collecting.ghj_collector_take.Code as code
 
