@@ -12,7 +12,7 @@ use Rattle.base.specs.Connection.{channelOf}
 use Rattle.base.specs.Named.{named}
 use Rattle.base.specs.Outcome.{Outcome, accepted, refused}
 use Rattle.challenge.specs.GetSessionChallenge as challenge
-use Rattle.session.specs.ActivateSession as activation
+use Rattle.activation.specs.ActivateSession as activation
 
 infixl 20 _>>=_
 -- arguments in their order: the first that is refused or names nothing decides

@@ -3,10 +3,10 @@ use Prim.Native.Nat.{ℕ}
 use mathlib.Core.List.{List}
 use Rattle.auth.specs.GetChannelAuthenticationCapabilities.{capabilitiesOf}
 use Rattle.base.specs.Outcome.{Outcome, accepted, _>>=_}
-use Rattle.channel.specs.GetChannelAccess.{accessOf}
+use Rattle.access.specs.GetChannelAccess.{accessOf}
 use Rattle.info.specs.GetChannelInfo.{infoOf}
 use Rattle.layouts.specs.Layouts.{accessLayout, capabilitiesLayout, infoLayout}
-use Rattle.session.specs.ActivateSession.{beginBytes, beginOf}
+use Rattle.activation.specs.ActivateSession.{beginBytes, beginOf}
 use Rattle.challenge.specs.GetSessionChallenge.{challengeBytes, challengeOf}
 use Rattle.suites.specs.GetChannelCipherSuites.{partOf, suitesBytes}
 

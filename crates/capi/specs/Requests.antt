@@ -5,9 +5,9 @@ use mathlib.Core.Option.{Option, none, some}
 use Rattle.base.specs.Connection.{channelOf}
 use Rattle.base.specs.Named.{named, required}
 use Rattle.base.specs.Outcome.{Outcome, _>>=_}
-use Rattle.channel.specs.GetChannelAccess as access
-use Rattle.channel.specs.declared.get_channel_access.ChannelAccessType.{ChannelAccessType}
-use Rattle.channel.specs.declared.get_channel_access.ChannelAccessType.the-variants.{NonVolatile, Volatile}
+use Rattle.access.specs.GetChannelAccess as access
+use Rattle.access.specs.declared.get_channel_access.ChannelAccessType.{ChannelAccessType}
+use Rattle.access.specs.declared.get_channel_access.ChannelAccessType.the-variants.{NonVolatile, Volatile}
 use Rattle.info.specs.GetChannelInfo as info
 use Rattle.suites.specs.GetChannelCipherSuites as suites
 

@@ -3,7 +3,7 @@ use Prim.Native.Nat.{ℕ}
 use mathlib.Core.List.{List}
 use Rattle.base.specs.Outcome.{Outcome, accepted, _>>=_}
 use Rattle.base.specs.declared.connection.Channel.the-variants.{Primary}
-use Rattle.setting.specs.SetChannelAccess.{applied, command, commandBytes, commandFor, commandOf, pairOf}
+use Rattle.set_access.specs.SetChannelAccess.{applied, command, commandBytes, commandFor, commandOf, pairOf}
 use Rattle.layouts.specs.Layouts.{accessRecord, setAccessLayout, settingsLayout, settingsRecord}
 
 -- "App 40h, three bytes", of a channel and two pairs that are given as numbers

@@ -5,6 +5,8 @@ ghost use Rattle.capi.specs.Requests.{accessRequest, infoRequest, suites
 use crate::number::NONE;
 use crate::number::code;
 use crate::number::refused;
+use access::get_channel_access::GetChannelAccess;
+use activation::activate_session::ActivateSession;
 use auth::AuthType;
 use auth::AuthTypeAnswer;
 use auth::PrivilegeAnswer;
@@ -15,10 +17,8 @@ use base::connection::ChannelAnswer;
 use base::refusal::Refusal;
 use base::verdict::Verdict;
 use challenge::get_session_challenge::GetSessionChallenge;
-use channel::get_channel_access::GetChannelAccess;
 use info::get_channel_info::CommandAnswer as InfoCommand;
 use info::get_channel_info::GetChannelInfo;
-use session::activate_session::ActivateSession;
 use suites::get_channel_cipher_suites::CommandAnswer as SuitesCommand;
 use suites::get_channel_cipher_suites::GetChannelCipherSuites;
 

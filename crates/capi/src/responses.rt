@@ -3,20 +3,20 @@ ghost use Rattle.capi.specs.Number.{Codes};
 ghost use Rattle.capi.specs.Records.{accessRecord, activationRecord, capabilitiesRecord, challengeRecord, infoRecord, suitesRecord};
 use crate::number::code;
 use crate::number::refused;
+use access::get_channel_access::AccessAnswer;
+use access::get_channel_access::ChannelAccess;
+use activation::activate_session::BeginAnswer;
+use activation::activate_session::BeginSessionInfo;
 use auth::get_channel_authentication_capabilities::ChannelAuthenticationCapabilities;
 use base::refusal::Refusal;
 use base::verdict::Verdict;
 use base::written::place;
 use challenge::get_session_challenge::SessionChallenge;
-use channel::get_channel_access::AccessAnswer;
-use channel::get_channel_access::ChannelAccess;
 use info::get_channel_info::ChannelInfo;
 use info::get_channel_info::InfoAnswer;
 use layouts::access_layout;
 use layouts::capabilities_layout;
 use layouts::info_layout;
-use session::activate_session::BeginAnswer;
-use session::activate_session::BeginSessionInfo;
 use suites::get_channel_cipher_suites::ChannelCipherSuites;
 
 // Temporary session number, four bytes, low first; the challenge, sixteen.

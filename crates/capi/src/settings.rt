@@ -10,10 +10,10 @@ use layouts::access_record;
 use layouts::set_access_layout;
 use layouts::settings_layout;
 use layouts::settings_record;
-use setting::set_channel_access::AccessPair;
-use setting::set_channel_access::CommandAnswer;
-use setting::set_channel_access::SetChannelAccess;
-use setting::set_channel_access::SettingsAnswer;
+use set_access::set_channel_access::AccessPair;
+use set_access::set_channel_access::CommandAnswer;
+use set_access::set_channel_access::SetChannelAccess;
+use set_access::set_channel_access::SettingsAnswer;
 
 // A pair is 0 leave, 1 non-volatile, 2 volatile.
 #[no_mangle]

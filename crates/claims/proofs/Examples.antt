@@ -14,13 +14,13 @@ use Rattle.base.specs.Connection.{channelOf}
 use Rattle.base.specs.Outcome.{accepted, refused}
 use Rattle.base.specs.Verdict.{verdictOf}
 use Rattle.base.specs.declared.connection.Channel.the-variants.{Current, Numbered}
-use Rattle.channel.specs.GetChannelAccess.{command, commandBytes}
-use Rattle.channel.specs.declared.get_channel_access.ChannelAccessType.the-variants.{NonVolatile}
+use Rattle.access.specs.GetChannelAccess.{command, commandBytes}
+use Rattle.access.specs.declared.get_channel_access.ChannelAccessType.the-variants.{NonVolatile}
 use Rattle.claims.proofs.Collecting.{P11, P12-first, P12-then, P13, call, seventeen-at-63, sevens, sixteen-at-63}
 use Rattle.collector.specs.Collector.{complete, fresh, listOf, missing, standingOf, taking}
 use Rattle.collector.specs.Histories.{after}
-use Rattle.session.specs.ActivateSession as Activate
-use Rattle.session.specs.ActivateSession.{beginOf}
+use Rattle.activation.specs.ActivateSession as Activate
+use Rattle.activation.specs.ActivateSession.{beginOf}
 use Rattle.challenge.specs.GetSessionChallenge as Challenge
 use Rattle.challenge.specs.GetSessionChallenge.{challengeOf}
 use Rattle.suites.specs.GetChannelCipherSuites as Suites

@@ -17,8 +17,8 @@ use Rattle.base.specs.Field.{Bytes, bits, byte, flag}
 use Rattle.base.specs.Outcome.{Outcome, accepted, refused, _>>=_, faultsAs}
 use Rattle.base.specs.declared.connection.Channel.{Channel}
 use Rattle.base.proofs.little.Laws.{a-byte, all-bytes, bytes-take}
-use Rattle.channel.specs.GetChannelAccess.{accessFields, accessOf}
-use Rattle.channel.specs.declared.get_channel_access.ChannelAccess.{ChannelAccess}
+use Rattle.access.specs.GetChannelAccess.{accessFields, accessOf}
+use Rattle.access.specs.declared.get_channel_access.ChannelAccess.{ChannelAccess}
 use Rattle.collector.specs.Collector.{complete, hasPart, isComplete, lastIndex, leastTo, listBy, listOf, lowest, missing, partLength, parts, put, taking, wellFormed}
 use Rattle.collector.specs.Histories.{Typed}
 use Rattle.collector.specs.declared.Collector.{Collector}

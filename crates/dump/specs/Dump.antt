@@ -10,7 +10,7 @@ use Rattle.base.specs.Field.{byte}
 use Rattle.base.specs.Outcome.{Outcome, accepted, refused}
 use Rattle.base.specs.Text.{ascii}
 use Rattle.base.specs.Written.{Writes}
-use Rattle.channel.specs.GetChannelAccess.{accessOf}
+use Rattle.access.specs.GetChannelAccess.{accessOf}
 use Rattle.collector.specs.Collector.{fresh, listOf, taking}
 use Rattle.collector.specs.declared.Collector.{Collector}
 use Rattle.info.specs.GetChannelInfo.{infoOf}

@@ -18,15 +18,15 @@ use Rattle.base.proofs.Outcome.{apart, steps}
 use Rattle.base.proofs.connection.Laws.{channel-iff, value-new}
 use Rattle.base.proofs.field.Laws.{below}
 use Rattle.base.proofs.little.Laws.{a-byte, bytes-back}
-use Rattle.channel.specs.GetChannelAccess.{accessBytes, accessFields, accessOf, limitField, modeField}
-use Rattle.channel.specs.declared.get_channel_access.ChannelAccess.{ChannelAccess}
-use Rattle.channel.proofs.get_channel_access.Laws.{first, limit-back, limit-field, limit-value, mode-back, mode-field, mode-value}
+use Rattle.access.specs.GetChannelAccess.{accessBytes, accessFields, accessOf, limitField, modeField}
+use Rattle.access.specs.declared.get_channel_access.ChannelAccess.{ChannelAccess}
+use Rattle.access.proofs.get_channel_access.Laws.{first, limit-back, limit-field, limit-value, mode-back, mode-field, mode-value}
 use Rattle.info.specs.GetChannelInfo.{infoFields, infoOf}
 use Rattle.info.specs.declared.get_channel_info.ChannelInfo.{ChannelInfo}
 use Rattle.media.proofs.get_channel_info.Laws.{medium-value, protocol-value, session-value}
-use Rattle.setting.specs.SetChannelAccess.{commandBytes, commandFor, pairOf, partsBytes}
-use Rattle.setting.specs.declared.set_channel_access.SetChannelAccess.{SetChannelAccess}
-use Rattle.setting.proofs.set_channel_access.Laws.{pair-back, pair-field, parts-are}
+use Rattle.set_access.specs.SetChannelAccess.{commandBytes, commandFor, pairOf, partsBytes}
+use Rattle.set_access.specs.declared.set_channel_access.SetChannelAccess.{SetChannelAccess}
+use Rattle.set_access.proofs.set_channel_access.Laws.{pair-back, pair-field, parts-are}
 use Rattle.layouts.specs.Layouts.{accessFrom, accessLayout, accessRecord, infoLayout, isSet, setAccessLayout, settingsLayout, settingsRecord}
 
 -- From a response: each byte of the record is the response's own bits.

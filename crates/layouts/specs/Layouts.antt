@@ -9,11 +9,11 @@ use Rattle.base.specs.Choice.{_=?_}
 use Rattle.base.specs.Connection.{valueOf}
 use Rattle.base.specs.Field.{byte}
 use Rattle.base.specs.Little.{littleBytes}
-use Rattle.channel.specs.GetChannelAccess.{limitOf, limitValue, modeOf, modeValue}
-use Rattle.channel.specs.declared.get_channel_access.ChannelAccess.{ChannelAccess}
-use Rattle.setting.specs.SetChannelAccess.{pairValue}
-use Rattle.setting.specs.declared.set_channel_access.ChannelSettings.{ChannelSettings}
-use Rattle.setting.specs.declared.set_channel_access.SetChannelAccess.{SetChannelAccess}
+use Rattle.access.specs.GetChannelAccess.{limitOf, limitValue, modeOf, modeValue}
+use Rattle.access.specs.declared.get_channel_access.ChannelAccess.{ChannelAccess}
+use Rattle.set_access.specs.SetChannelAccess.{pairValue}
+use Rattle.set_access.specs.declared.set_channel_access.ChannelSettings.{ChannelSettings}
+use Rattle.set_access.specs.declared.set_channel_access.SetChannelAccess.{SetChannelAccess}
 use Rattle.media.specs.Media.{mediumValue, protocolValue, sessionValue}
 use Rattle.info.specs.declared.get_channel_info.ChannelInfo.{ChannelInfo}
 

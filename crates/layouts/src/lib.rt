@@ -1,14 +1,14 @@
 // Records as bytes, a byte for each field: what the C functions give and take. include/ghjalvestru.h has the layouts.
 ghost use mathlib.Core.Path.{_≡_};
 ghost use Rattle.layouts.specs.Layouts.{accessFrom, accessLayout, accessRecord, capabilitiesLayout, infoLayout, setAccessLayout, settingsLayout, settingsRecord};
+use access::get_channel_access::ChannelAccess;
+use access::get_channel_access::ChannelAccessMode;
+use access::get_channel_access::ChannelPrivilegeLevel;
 use auth::get_channel_authentication_capabilities::ChannelAuthenticationCapabilities;
 use base::little::bytes4;
-use channel::get_channel_access::ChannelAccess;
-use channel::get_channel_access::ChannelAccessMode;
-use channel::get_channel_access::ChannelPrivilegeLevel;
 use info::get_channel_info::ChannelInfo;
-use setting::set_channel_access::ChannelSettings;
-use setting::set_channel_access::SetChannelAccess;
+use set_access::set_channel_access::ChannelSettings;
+use set_access::set_channel_access::SetChannelAccess;
 
 // Mode; alerting, per-message and user-level authentication DISABLED, 0 or 1 each; limit.
 pub fn access_layout(access: ChannelAccess) -> [u8; 5]

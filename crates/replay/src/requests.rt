@@ -4,6 +4,10 @@
 use crate::calls::NONE;
 use crate::calls::code;
 use crate::calls::refused;
+use access::get_channel_access::ChannelAccessType;
+use access::get_channel_access::CommandAnswer as AccessCommand;
+use access::get_channel_access::GetChannelAccess;
+use activation::activate_session::ActivateSession;
 use auth::AuthType;
 use auth::AuthTypeAnswer;
 use auth::get_channel_authentication_capabilities::CommandAnswer as CapabilitiesCommand;
@@ -14,12 +18,8 @@ use base::verdict::Verdict;
 use base::written::Written;
 use base::written::place;
 use challenge::get_session_challenge::GetSessionChallenge;
-use channel::get_channel_access::ChannelAccessType;
-use channel::get_channel_access::CommandAnswer as AccessCommand;
-use channel::get_channel_access::GetChannelAccess;
 use info::get_channel_info::CommandAnswer as InfoCommand;
 use info::get_channel_info::GetChannelInfo;
-use session::activate_session::ActivateSession;
 use suites::get_channel_cipher_suites::CommandAnswer as SuitesCommand;
 use suites::get_channel_cipher_suites::GetChannelCipherSuites;
 

@@ -6,9 +6,9 @@ use crate::calls::refused;
 use base::refusal::Refusal;
 use layouts::settings_layout;
 use layouts::settings_record;
-use setting::set_channel_access::CommandAnswer;
-use setting::set_channel_access::SetChannelAccess;
-use setting::set_channel_access::SettingsAnswer;
+use set_access::set_channel_access::CommandAnswer;
+use set_access::set_channel_access::SetChannelAccess;
+use set_access::set_channel_access::SettingsAnswer;
 
 pub(crate) fn set_written(request: &[u8], out: &mut [u8]) -> u64 {
     match SetChannelAccess::read(request) {

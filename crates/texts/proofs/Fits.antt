@@ -13,11 +13,11 @@ use Rattle.base.specs.Connection.{channelText}
 use Rattle.base.specs.Text.{ascii, digit, hex2}
 use Rattle.base.specs.declared.connection.Channel.{Channel}
 use Rattle.base.specs.declared.connection.Channel.the-variants.{Primary, Numbered, Current, System}
-use Rattle.channel.specs.GetChannelAccess.{limitText, modeText}
-use Rattle.channel.specs.declared.get_channel_access.ChannelAccessMode.{ChannelAccessMode}
-use Rattle.channel.specs.declared.get_channel_access.ChannelAccessMode.the-variants as Mode
-use Rattle.channel.specs.declared.get_channel_access.ChannelPrivilegeLevel.{ChannelPrivilegeLevel}
-use Rattle.channel.specs.declared.get_channel_access.ChannelPrivilegeLevel.the-variants as Level
+use Rattle.access.specs.GetChannelAccess.{limitText, modeText}
+use Rattle.access.specs.declared.get_channel_access.ChannelAccessMode.{ChannelAccessMode}
+use Rattle.access.specs.declared.get_channel_access.ChannelAccessMode.the-variants as Mode
+use Rattle.access.specs.declared.get_channel_access.ChannelPrivilegeLevel.{ChannelPrivilegeLevel}
+use Rattle.access.specs.declared.get_channel_access.ChannelPrivilegeLevel.the-variants as Level
 use Rattle.media.specs.Media.{mediumText, protocolText, sessionText}
 use Rattle.media.specs.declared.get_channel_info.ChannelMediumType.{ChannelMediumType}
 use Rattle.media.specs.declared.get_channel_info.ChannelMediumType.the-variants as Medium

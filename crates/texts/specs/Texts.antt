@@ -10,8 +10,8 @@ use Rattle.auth.specs.declared.AuthTypeAnswer.the-variants as Answer
 use Rattle.base.specs.Choice.{if_then_else_}
 use Rattle.base.specs.Connection.{channelText}
 use Rattle.base.specs.Text.{ascii, hex2}
-use Rattle.channel.specs.GetChannelAccess.{limitText, modeText}
-use Rattle.channel.specs.declared.get_channel_access.ChannelAccess.{ChannelAccess}
+use Rattle.access.specs.GetChannelAccess.{limitText, modeText}
+use Rattle.access.specs.declared.get_channel_access.ChannelAccess.{ChannelAccess}
 use Rattle.media.specs.Media.{mediumText, protocolText, sessionText}
 use Rattle.info.specs.declared.get_channel_info.ChannelInfo.{ChannelInfo}
 use Rattle.lines.specs.Lines.{decimal, space}

@@ -39,15 +39,15 @@ mod tests {
             ),
             (
                 ActivateSession::COMMAND,
-                source!("session/src/activate_session"),
+                source!("activation/src/activate_session"),
             ),
             (
                 SetChannelAccess::COMMAND,
-                source!("setting/src/set_channel_access"),
+                source!("set_access/src/set_channel_access"),
             ),
             (
                 GetChannelAccess::COMMAND,
-                source!("channel/src/get_channel_access"),
+                source!("access/src/get_channel_access"),
             ),
             (
                 GetChannelInfo::COMMAND,

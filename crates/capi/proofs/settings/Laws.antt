@@ -10,13 +10,13 @@ use Rattle.base.specs.Outcome.{accepted, _>>=_}
 use Rattle.base.specs.declared.connection.Channel.{Channel}
 use Rattle.base.proofs.Outcome.{apart, steps}
 use Rattle.base.proofs.connection.Laws.{value-new}
-use Rattle.channel.specs.declared.get_channel_access.ChannelAccess.{ChannelAccess}
-use Rattle.setting.specs.SetChannelAccess.{applied, command, commandBytes, commandFor, commandOf, pairField, pairOf, pairValue, partsBytes, saidCommand, saidSettings}
-use Rattle.setting.specs.declared.set_channel_access.AccessPair.{AccessPair}
-use Rattle.setting.specs.declared.set_channel_access.ChannelSettings.{ChannelSettings}
-use Rattle.setting.specs.declared.set_channel_access.CommandAnswer.{CommandAnswer}
-use Rattle.setting.specs.declared.set_channel_access.SettingsAnswer.{SettingsAnswer}
-use Rattle.setting.proofs.set_channel_access.Laws.{command-back, command-iff, pair-reserved, parts-are}
+use Rattle.access.specs.declared.get_channel_access.ChannelAccess.{ChannelAccess}
+use Rattle.set_access.specs.SetChannelAccess.{applied, command, commandBytes, commandFor, commandOf, pairField, pairOf, pairValue, partsBytes, saidCommand, saidSettings}
+use Rattle.set_access.specs.declared.set_channel_access.AccessPair.{AccessPair}
+use Rattle.set_access.specs.declared.set_channel_access.ChannelSettings.{ChannelSettings}
+use Rattle.set_access.specs.declared.set_channel_access.CommandAnswer.{CommandAnswer}
+use Rattle.set_access.specs.declared.set_channel_access.SettingsAnswer.{SettingsAnswer}
+use Rattle.set_access.proofs.set_channel_access.Laws.{command-back, command-iff, pair-reserved, parts-are}
 use Rattle.layouts.specs.Layouts.{accessRecord, setAccessLayout, settingsLayout, settingsRecord}
 use Rattle.layouts.proofs.Laws.{flagged, record-laid, set-access-back}
 use Rattle.capi.specs.Settings.{setAccessApplied, setAccessRecord, setAccessRequest}

@@ -1,6 +1,6 @@
 use borrow.Author.Needs.{needs}
 use native.Mathlib.Omega.{arith}
-use Rattle.channel.specs.GetChannelAccess.{limitText}
+use Rattle.access.specs.GetChannelAccess.{limitText}
 use Rattle.texts.proofs.Fits.{limit-fits}
 use Rattle.texts.proofs.Laws.{added, wrote-most}
 use Rattle.texts.proofs.put_limit.Statement.{statement}

@@ -1,6 +1,6 @@
 use borrow.Author.Needs.{needs}
 use native.Mathlib.Omega.{arith}
-use Rattle.channel.specs.GetChannelAccess.{modeText}
+use Rattle.access.specs.GetChannelAccess.{modeText}
 use Rattle.texts.proofs.Fits.{mode-fits}
 use Rattle.texts.proofs.Laws.{added, wrote-most}
 use Rattle.texts.proofs.put_mode.Statement.{statement}

@@ -1,6 +1,6 @@
 use borrow.Author.Needs.{needs}
 use Rattle.base.specs.Outcome.{accepted}
-use Rattle.channel.specs.GetChannelAccess.{limitText}
+use Rattle.access.specs.GetChannelAccess.{limitText}
 use Rattle.capi.proofs.Laws.{coding-made}
 use Rattle.capi.proofs.display.ghj_limit_text.Statement.{statement}
 use Rattle.capi.proofs.display.ghj_limit_text.Tie as tie

@@ -1,6 +1,6 @@
 use borrow.Author.Needs.{needs}
 use Rattle.base.specs.Outcome.{accepted}
-use Rattle.channel.specs.GetChannelAccess.{modeText}
+use Rattle.access.specs.GetChannelAccess.{modeText}
 use Rattle.capi.proofs.Laws.{coding-made}
 use Rattle.capi.proofs.display.ghj_mode_text.Statement.{statement}
 use Rattle.capi.proofs.display.ghj_mode_text.Tie as tie

@@ -2,7 +2,7 @@ use borrow.Author.Needs.{needs}
 use mathlib.Core.Path.{sym, _∙_, ap}
 use Rattle.base.specs.Connection.{saidChannel}
 use Rattle.base.specs.declared.refusal.Refusal.the-variants.{NoChannel, NoForm}
-use Rattle.channel.specs.GetChannelAccess.{commandBytes}
+use Rattle.access.specs.GetChannelAccess.{commandBytes}
 use Rattle.capi.proofs.Laws.{coding-made, no-kind, refused-coded}
 use Rattle.capi.proofs.requests.ghj_access_request.Statement.{statement}
 use Rattle.capi.proofs.requests.ghj_access_request.Tie as tie

@@ -4,7 +4,7 @@ use mathlib.Core.Path.{refl}
 use Rattle.base.specs.Outcome.{accepted}
 use Rattle.base.proofs.Named.{told}
 use Rattle.auth.specs.Auth.{saidAuthType, saidPrivilege}
-use Rattle.session.specs.ActivateSession.{command, commandBytes}
+use Rattle.activation.specs.ActivateSession.{command, commandBytes}
 use Rattle.capi.proofs.Laws.{any-none, any-sure, coding}
 use Rattle.capi.proofs.requests.ghj_activation_request.Statement.{statement}
 use Rattle.capi.proofs.requests.ghj_activation_request.Tie as tie

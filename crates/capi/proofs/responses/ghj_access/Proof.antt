@@ -2,7 +2,7 @@ use borrow.Author.Needs.{needs}
 use mathlib.Core.Path.{sym, _∙_, ap}
 use Rattle.base.specs.Outcome.{accepted}
 use Rattle.base.specs.declared.refusal.Refusal.the-variants.{NotEnoughData}
-use Rattle.channel.specs.GetChannelAccess.{saidAccess}
+use Rattle.access.specs.GetChannelAccess.{saidAccess}
 use Rattle.capi.proofs.Laws.{coding-made, refused-coded}
 use Rattle.capi.proofs.responses.ghj_access.Statement.{statement}
 use Rattle.capi.proofs.responses.ghj_access.Tie as tie

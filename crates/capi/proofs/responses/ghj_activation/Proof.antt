@@ -1,6 +1,6 @@
 use borrow.Author.Needs.{needs}
 use mathlib.Core.Path.{sym, _∙_, ap}
-use Rattle.session.specs.ActivateSession.{saidBegin}
+use Rattle.activation.specs.ActivateSession.{saidBegin}
 use Rattle.capi.proofs.Laws.{coding, refused-coded}
 use Rattle.capi.proofs.responses.ghj_activation.Statement.{statement}
 use Rattle.capi.proofs.responses.ghj_activation.Tie as tie

@@ -1,7 +1,7 @@
 use borrow.Author.Needs.{needs}
 use mathlib.Core.Path.{sym, _∙_, ap}
 use Rattle.base.specs.Outcome.{accepted}
-use Rattle.setting.specs.SetChannelAccess.{saidCommand}
+use Rattle.set_access.specs.SetChannelAccess.{saidCommand}
 use Rattle.capi.proofs.Laws.{coding-made, refused-coded}
 use Rattle.capi.proofs.settings.ghj_set_access.Statement.{statement}
 use Rattle.capi.proofs.settings.ghj_set_access.Tie as tie
