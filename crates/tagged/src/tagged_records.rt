@@ -286,15 +286,15 @@ pub fn suite_numbers(list: &[u8], out: &mut [u8]) -> Written
     if out.len() < n {
         return Written::Refused(Refusal::NoRoom);
     }
-    let mut at: usize = 0;
+    let mut position: usize = 0;
     let mut i: usize = 0;
-    while at < list.len() {
-        let EndAnswer::End(end) = end_at(list, at) else {
+    while position < list.len() {
+        let EndAnswer::End(end) = end_at(list, position) else {
             return Written::Length(i);
         };
-        out[i] = list[at + 1];
+        out[i] = list[position + 1];
         i += 1;
-        at = end;
+        position = end;
     }
     Written::Length(i)
 }
@@ -313,15 +313,15 @@ pub fn suite_listing(list: &[u8], out: &mut [u8]) -> Written
     if out.len() / ENTRY < n {
         return Written::Refused(Refusal::NoRoom);
     }
-    let mut at: usize = 0;
+    let mut from: usize = 0;
     let mut length: usize = 0;
-    while at < list.len() {
-        let EndAnswer::End(end) = end_at(list, at) else {
+    while from < list.len() {
+        let EndAnswer::End(end) = end_at(list, from) else {
             return Written::Length(length);
         };
-        place(&entry_at(list, at), &mut out[length..]);
+        place(&entry_at(list, from), &mut out[length..]);
         length += ENTRY;
-        at = end;
+        from = end;
     }
     Written::Length(length)
 }

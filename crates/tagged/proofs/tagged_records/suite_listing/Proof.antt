@@ -12,10 +12,10 @@ use Rattle.tagged.proofs.tagged_records.suite_listing.Statement.{statem
 use Rattle.tagged.proofs.tagged_records.suite_listing.Tie as tie
 
 abbrev Inv-loop : tie.InvT-loop
-Inv-loop list out₀ n at₀ length₀ out at end = Turn list entryLength out₀ out at end
+Inv-loop list out₀ n from₀ length₀ out from end = Turn list entryLength out₀ out from end
 
 abbrev μ-loop : tie.MeasureT-loop
-μ-loop list out₀ n at₀ length₀ out at end = length list - at
+μ-loop list out₀ n from₀ length₀ out from end = length list - from
 
 returns : tie.Need-returns Inv-loop μ-loop
 returns c =
@@ -46,7 +46,7 @@ entry-at-requires c κs =
     let k = v .before .before in
     let l = k .before .before in
     let s = l .before .before .before .before .before .before .before in
-    entered (s .before .args .list .now) (l .loop .at) (λ j. s .shared-slice-known .given j .fits) (told-end (k .end-at .ensures) (v .end .given .1) .1) .0
+    entered (s .before .args .list .now) (l .loop .from) (λ j. s .shared-slice-known .given j .fits) (told-end (k .end-at .ensures) (v .end .given .1) .1) .0
 
 add-length : tie.Need-add-length Inv-loop μ-loop
 add-length c =
@@ -62,7 +62,7 @@ loop-less c =
     let k = v .before .before in
     let l = k .before .before in
     let (r, e, z) = told-end (k .end-at .ensures) (v .end .given .1) in
-    let h = ends (l .before .before .before .before .before .before .before .before .args .list .now) (l .loop .at) e in
+    let h = ends (l .before .before .before .before .before .before .before .before .args .list .now) (l .loop .from) e in
     omega (arith, k .before .loop-test .taken)
 
 loop-again : tie.Need-loop-again Inv-loop μ-loop

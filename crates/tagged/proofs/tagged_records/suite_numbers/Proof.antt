@@ -12,10 +12,10 @@ use Rattle.tagged.proofs.tagged_records.suite_numbers.Statement.{statem
 use Rattle.tagged.proofs.tagged_records.suite_numbers.Tie as tie
 
 abbrev Inv-loop : tie.InvT-loop
-Inv-loop list out₀ n at₀ i₀ out at i = Turn list 1 out₀ out at i
+Inv-loop list out₀ n position₀ i₀ out position i = Turn list 1 out₀ out position i
 
 abbrev μ-loop : tie.MeasureT-loop
-μ-loop list out₀ n at₀ i₀ out at i = length list - at
+μ-loop list out₀ n position₀ i₀ out position i = length list - position
 
 returns : tie.Need-returns Inv-loop μ-loop
 returns c =
