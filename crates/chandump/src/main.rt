@@ -15,6 +15,7 @@ use libc::EAGAIN;
 use libc::EINTR;
 use libc::STDIN_FILENO;
 use libc::STDOUT_FILENO;
+use libc::types::timespec;
 use lines::kept;
 use stream::LINE;
 use stream::begin;
@@ -40,15 +41,23 @@ struct Sent {
     calls: u64,
 }
 
-fn pause() {
-    libc::sched_yield();
+// A millisecond.
+const PAUSE: timespec = timespec {
+    tv_sec: 0,
+    tv_nsec: 1_000_000,
+};
+
+// A signal may end it early.
+fn sleep(asked: timespec) {
+    let mut left = asked;
+    libc::nanosleep(&asked, &mut left);
 }
 
 // Is the call that failed to be tried again? After a signal at once; where a file that does not block has nothing or no
 // room, after a pause.
 fn again(error: i32) -> bool {
     if error == EAGAIN {
-        pause();
+        sleep(PAUSE);
         return true;
     }
     error == EINTR
@@ -74,8 +83,12 @@ fn send(text: &[u8], before: Sent) -> Sent
         os::fail(b"chandump: standard output");
         return Sent { done, calls: 0 };
     }
+    let taken = io::count(got, part);
+    if taken == 0 {
+        sleep(PAUSE);
+    }
     Sent {
-        done: done + io::count(got, part),
+        done: done + taken,
         calls: before.calls - 1,
     }
 }
@@ -289,9 +302,33 @@ fn run(
     }
 }
 
+fn page() {
+    written(
+        b"chandump shows what an IPMI management controller said of a channel. It takes no argument: it reads lines from
+standard input and answers each with a line.
+
+A line is a word, then hex pairs, one space before each:
+
+    inf RESPONSE          Get Channel Info
+    acc RESPONSE          Get Channel Access
+    cap RESPONSE          Get Channel Authentication Capabilities: the best type offered
+    sui INDEX RESPONSE    Get Channel Cipher Suites: a part of the list
+    end                   the suites of the list, or the part that is missing; then a fresh list
+
+A line that is refused is answered \"refused\" and a number:
+
+    1     the response is too short, or names no channel
+    2     a part of the list is above 16 bytes
+    7     an index is above 3F
+    12    no list explains this part and those before it
+    14    the line has another form, or is above 256 bytes
+",
+    );
+}
+
 fn main() {
     if 1 < os::arg_count() {
-        written(b"chandump\n");
+        page();
         return;
     }
     let mut bytes = [0; Collector::CAPACITY];
