@@ -119,7 +119,11 @@ fn of_request(f: u8, a: &[u8], out: &mut [u8]) -> u64 {
 }
 
 // A number, with lent bytes.
-fn of_number(f: u8, n: u8, out: &mut [u8]) -> u64 {
+fn of_number(f: u8, a: &[u8], out: &mut [u8]) -> u64 {
+    if a.len() != 1 {
+        return BAD;
+    }
+    let n = a[0];
     match f {
         0x20 => ghj_channel_text(n, out),
         0x21 => ghj_mode_text(n, out),
@@ -135,7 +139,11 @@ fn of_number(f: u8, n: u8, out: &mut [u8]) -> u64 {
 }
 
 // A number alone.
-fn of_leaf(f: u8, n: u8) -> u64 {
+fn of_leaf(f: u8, a: &[u8]) -> u64 {
+    if a.len() != 1 {
+        return BAD;
+    }
+    let n = a[0];
     match f {
         0x30 => channel_number(n),
         0x31 => channel(n),
@@ -153,7 +161,12 @@ fn of_leaf(f: u8, n: u8) -> u64 {
 }
 
 // Two numbers.
-fn of_two(f: u8, n: u8, m: u8, out: &mut [u8]) -> u64 {
+fn of_two(f: u8, a: &[u8], out: &mut [u8]) -> u64 {
+    if a.len() != 2 {
+        return BAD;
+    }
+    let n = a[0];
+    let m = a[1];
     match f {
         0x40 => ghj_access_request(n, m, out),
         0x41 => ghj_capabilities_request(n, m, out),
@@ -193,31 +206,15 @@ fn of_model(f: u8, a: &[u8], out: &mut [u8]) -> u64 {
     }
 }
 
-fn of_numbers(f: u8, a: &[u8], out: &mut [u8]) -> u64 {
-    if a.len() == 1 {
-        if f < 0x30 {
-            return of_number(f, a[0], out);
-        }
-        return of_leaf(f, a[0]);
-    }
-    if a.len() == 2 {
-        return of_two(f, a[0], a[1], out);
-    }
-    BAD
-}
-
 pub(crate) fn call(f: u8, a: &[u8], out: &mut [u8]) -> u64 {
-    if f < 0x10 {
-        return of_response(f, a, out);
+    match f / 16 {
+        0 => of_response(f, a, out),
+        1 => of_request(f, a, out),
+        2 => of_number(f, a, out),
+        3 => of_leaf(f, a),
+        4 => of_two(f, a, out),
+        5 => of_some(f, a, out),
+        8 => of_model(f, a, out),
+        _ => BAD,
     }
-    if f < 0x20 {
-        return of_request(f, a, out);
-    }
-    if f < 0x50 {
-        return of_numbers(f, a, out);
-    }
-    if f < 0x80 {
-        return of_some(f, a, out);
-    }
-    of_model(f, a, out)
 }

@@ -61,10 +61,14 @@ fn shown(number: u64, lent: &[u8], room: usize) {
     }
 }
 
-fn answered(line: &[u8]) {
+// The line is the first `used` bytes. None of it is held any more.
+fn answered(line: &[u8], used: usize) -> usize {
     let mut lent = [FILL; LENT];
-    let said = answer(line, &mut lent);
-    shown(said.number, &lent, said.room);
+    if used <= line.len() {
+        let said = answer(&line[0..used], &mut lent);
+        shown(said.number, &lent, said.room);
+    }
+    0
 }
 
 // What a block has of a line goes behind what is held of it. A line that fills all of `line` is too long for a question,
@@ -82,20 +86,13 @@ fn held(part: &[u8], used: usize, line: &mut [u8]) -> usize {
     line.len()
 }
 
-fn ended(line: &[u8], used: usize) -> usize {
-    if used <= line.len() {
-        answered(&line[0..used]);
-    }
-    0
-}
-
 fn line_at(block: &[u8], at: usize, end: usize, before: usize, line: &mut [u8]) -> usize
     requires { ⌜ at ≤ end ⌝ }
     requires { ⌜ end ≤ length (now block) ⌝ }
 {
     let used = held(&block[at..end], before, line);
     if end < block.len() {
-        return ended(line, used);
+        return answered(line, used);
     }
     used
 }
@@ -150,6 +147,6 @@ fn main() {
     let used = run(&mut block, &mut line);
     // A last line that no newline ends.
     if 0 < used {
-        ended(&line, used);
+        answered(&line, used);
     }
 }

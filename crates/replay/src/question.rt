@@ -8,7 +8,6 @@ use crate::calls::call;
 use base::little::bytes8;
 use base::little::number3;
 use base::written::Written;
-use base::written::place;
 use lines::read_pairs;
 
 // As many pairs as a line can hold.
@@ -137,11 +136,14 @@ fn hash_of(count: usize, letters: &[u8], begin: usize, end: usize, question: &mu
     hash
 }
 
-// From the place on as many bytes of the question run as are said.
+// From the place on as many bytes of the question run as are said. A longer question than is swept is none.
 fn run(place: u8, running: u8, letters: &[u8], question: &mut [u8]) -> u64 {
     let begin = ARGUMENTS + wide(place);
     let end = begin + wide(running);
     if question.len() < end {
+        return BAD;
+    }
+    if SWEPT < question.len() {
         return BAD;
     }
     let count = turns(base_of(letters), running);
@@ -151,37 +153,22 @@ fn run(place: u8, running: u8, letters: &[u8], question: &mut [u8]) -> u64 {
     hash_of(count, letters, begin, end, question)
 }
 
-fn run_copy(place_of: u8, running: u8, letters: &[u8], question: &[u8]) -> u64 {
-    let mut copy = [0u8; SWEPT];
-    let Written::Length(n) = place(question, &mut copy) else {
-        return BAD;
-    };
-    if SWEPT < n {
-        return BAD;
-    }
-    run(place_of, running, letters, &mut copy[0..n])
-}
-
-// The hash of the answers to all questions of the sweep.
-fn swept(bytes: &[u8]) -> u64 {
-    if bytes.len() < LETTERS {
-        return BAD;
-    }
+// The hash of the answers to all questions of a sweep of `n` bytes.
+fn swept(bytes: [u8; PAIRS], n: usize) -> u64 {
     let begin = LETTERS + wide(bytes[3]);
-    if bytes.len() < begin {
+    if PAIRS < n {
         return BAD;
     }
-    run_copy(bytes[1], bytes[2], &bytes[LETTERS..begin], &bytes[begin..])
-}
-
-fn replied(bytes: &[u8], lent: &mut [u8]) -> Said {
-    if bytes.len() == 0 {
-        return alone(BAD);
+    if n < begin {
+        return BAD;
     }
-    if bytes[0] == SWEEP {
-        return alone(swept(bytes));
-    }
-    asked(bytes, lent)
+    let mut copy = bytes;
+    run(
+        bytes[1],
+        bytes[2],
+        &bytes[LETTERS..begin],
+        &mut copy[begin..n],
+    )
 }
 
 // What is answered to a line. The lent bytes are all `FILL`.
@@ -190,8 +177,11 @@ pub(crate) fn answer(line: &[u8], lent: &mut [u8]) -> Said {
     let Written::Length(n) = read_pairs(line, &mut bytes) else {
         return alone(BAD);
     };
+    if bytes[0] == SWEEP {
+        return alone(swept(bytes, n));
+    }
     if PAIRS < n {
         return alone(BAD);
     }
-    replied(&bytes[0..n], lent)
+    asked(&bytes[0..n], lent)
 }

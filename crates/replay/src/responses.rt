@@ -43,19 +43,17 @@ pub(crate) fn info_written(response: &[u8], out: &mut [u8]) -> u64 {
     code(info.write(out))
 }
 
-fn best_of(capabilities: ChannelAuthenticationCapabilities) -> u64 {
-    let AuthTypeAnswer::AuthType(kind) = capabilities.best_auth() else {
-        return NONE;
-    };
-    kind.value() as u64
-}
-
 pub(crate) fn best_auth(response: &[u8]) -> u64 {
     let answer = ChannelAuthenticationCapabilities::parse(response);
     let verdict = answer.verdict;
     let capabilities = answer.capabilities;
     match verdict {
-        Verdict::Accepted => best_of(capabilities),
+        Verdict::Accepted => {
+            let AuthTypeAnswer::AuthType(kind) = capabilities.best_auth() else {
+                return NONE;
+            };
+            kind.value() as u64
+        }
         Verdict::Refused(refusal) => refused(refusal),
     }
 }
@@ -71,17 +69,13 @@ pub(crate) fn capabilities_written(response: &[u8], out: &mut [u8]) -> u64 {
 }
 
 // The filled part of the record.
-fn part(suites: ChannelCipherSuites, out: &mut [u8]) -> u64 {
-    let bytes = suites.record_data;
-    code(place(filled(&bytes, suites.data_length), out))
-}
-
 pub(crate) fn suites_part(response: &[u8], out: &mut [u8]) -> u64 {
     let answer = ChannelCipherSuites::parse(response);
     let verdict = answer.verdict;
     let suites = answer.suites;
+    let bytes = suites.record_data;
     match verdict {
-        Verdict::Accepted => part(suites, out),
+        Verdict::Accepted => code(place(filled(&bytes, suites.data_length), out)),
         Verdict::Refused(refusal) => refused(refusal),
     }
 }
@@ -132,7 +126,10 @@ pub(crate) fn suite_steps(list: &[u8], out: &mut [u8]) -> u64 {
 }
 
 // The number, then the numbers of the algorithms.
-fn algorithms(suite: CipherSuite) -> u64 {
+pub(crate) fn suite(n: u8) -> u64 {
+    let SuiteAnswer::Suite(suite) = CipherSuite::from_id(n) else {
+        return NONE;
+    };
     let AuthenticationAnswer::Algorithm(authentication) = suite.authentication() else {
         return NONE;
     };
@@ -140,13 +137,6 @@ fn algorithms(suite: CipherSuite) -> u64 {
         return NONE;
     };
     number3(suite.id(), authentication.value(), integrity.value()) as u64
-}
-
-pub(crate) fn suite(n: u8) -> u64 {
-    let SuiteAnswer::Suite(suite) = CipherSuite::from_id(n) else {
-        return NONE;
-    };
-    algorithms(suite)
 }
 
 pub(crate) fn suite_confidentiality(n: u8) -> u64 {
