@@ -1,7 +1,7 @@
 //! The crate's readers behind the same kind of call as the port's: C functions that are not inlined, on slices, with the
 //! records of include/ghjalvestru.h written out. So too the plain strict reader.
 
-use crate::plain::{strict_numbers, strict_step};
+use crate::plain::{strict_listing, strict_numbers, strict_step};
 use oracle_core::app::auth::{
     ActivateSession, AuthError, ChannelCipherSuites, GetChannelAuthenticationCapabilities,
     GetChannelCipherSuites, GetSessionChallenge,
@@ -138,6 +138,7 @@ called!(crate_activation, activation);
 called!(crate_suites, suites);
 called!(crate_numbers, numbers);
 called!(plain_numbers, strict_numbers);
+called!(plain_listing, strict_listing);
 
 /// # Safety
 /// The pointers are those of slices of the lengths beside them.

@@ -225,6 +225,19 @@ fn rows() -> Vec<Row> {
             floor: called::copying::<1020>,
         },
         Row {
+            name: "strict listing of 204 records",
+            port: port::ghj_tagged_listing,
+            called: called::plain_listing,
+            inputs: vec![records(204)],
+            inlined: |inputs| {
+                let mut out = [0; ROOM];
+                for input in inputs {
+                    black_box(plain::strict_listing(black_box(input), black_box(&mut out)));
+                }
+            },
+            floor: called::copying::<1020>,
+        },
+        Row {
             name: "strict steps of 204 records",
             port: port_steps,
             called: plain_steps,

@@ -113,8 +113,9 @@ pub struct Record {
     end: usize,
 }
 
-/// A record's length as include/ghjalvestru.h has it.
+/// A record's length as include/ghjalvestru.h has it, and that of its entry in the listing.
 pub const RECORD: usize = 32;
+const ENTRY: usize = 5;
 
 impl Record {
     /// The record at a position, or the place of the first byte that no record has there.
@@ -199,16 +200,23 @@ pub fn strict_step(list: &[u8], position: usize, out: &mut [u8]) -> u64 {
     }
 }
 
+/// How many records a list has, or the number of its refusal.
+fn count(list: &[u8]) -> Result<usize, u64> {
+    let mut count = 0;
+    for record in records(list) {
+        record.map_err(bad_record)?;
+        count += 1;
+    }
+    Ok(count)
+}
+
 /// As the port: nothing is written where one record is bad or one number has no room.
 #[inline(always)]
 pub fn strict_numbers(list: &[u8], out: &mut [u8]) -> u64 {
-    let mut count = 0;
-    for record in records(list) {
-        if let Err(place) = record {
-            return bad_record(place);
-        }
-        count += 1;
-    }
+    let count = match count(list) {
+        Ok(count) => count,
+        Err(refusal) => return refusal,
+    };
     let Some(out) = out.get_mut(..count) else {
         return refused(NO_ROOM);
     };
@@ -216,4 +224,20 @@ pub fn strict_numbers(list: &[u8], out: &mut [u8]) -> u64 {
         *place = record.number;
     }
     count as u64
+}
+
+/// The same with whose suite each is: a record's first five bytes.
+#[inline(always)]
+pub fn strict_listing(list: &[u8], out: &mut [u8]) -> u64 {
+    let count = match count(list) {
+        Ok(count) => count,
+        Err(refusal) => return refusal,
+    };
+    let Some(out) = out.get_mut(..ENTRY * count) else {
+        return refused(NO_ROOM);
+    };
+    for (place, record) in out.chunks_exact_mut(ENTRY).zip(records(list).flatten()) {
+        place.copy_from_slice(&record.bytes()[..ENTRY]);
+    }
+    (ENTRY * count) as u64
 }

@@ -11,6 +11,7 @@ extern "C" {
     pub fn ghj_suites(response: *const u8, length: usize, out: *mut u8, room: usize) -> u64;
     pub fn ghj_suite_numbers(list: *const u8, length: usize, out: *mut u8, room: usize) -> u64;
     pub fn ghj_tagged_numbers(list: *const u8, length: usize, out: *mut u8, room: usize) -> u64;
+    pub fn ghj_tagged_listing(list: *const u8, length: usize, out: *mut u8, room: usize) -> u64;
     pub fn ghj_tagged_step(
         list: *const u8,
         length: usize,

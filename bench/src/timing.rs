@@ -2,7 +2,7 @@
 
 use std::time::Instant;
 
-const ROUNDS: usize = 201;
+const ROUNDS: usize = 1001;
 const ROUND_NS: f64 = 100_000.0;
 
 pub type Work<'a> = &'a mut dyn FnMut();

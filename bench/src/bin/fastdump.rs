@@ -184,7 +184,8 @@ impl Collector {
         }
         let (start, end) = (PART * i, PART * i + part.len());
         if self.heard >> i & 1 == 1 {
-            let same = usize::from(self.lengths[i]) == part.len() && self.bytes[start..end] == *part;
+            let same =
+                usize::from(self.lengths[i]) == part.len() && self.bytes[start..end] == *part;
             return if same { 0 } else { 12 };
         }
         let least = if part.is_empty() { 0 } else { end }.max(self.least);
