@@ -14,5 +14,5 @@ fn main() {
     if let Some(folder) = archive.parent() {
         println!("cargo::rustc-link-search=native={}", folder.display());
     }
-    println!("cargo::rustc-link-lib=static=capi");
+    println!("cargo::rustc-link-lib=static=ghjalvestru");
 }
