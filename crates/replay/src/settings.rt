@@ -4,6 +4,7 @@ use crate::calls::BAD;
 use crate::calls::code;
 use crate::calls::refused;
 use base::refusal::Refusal;
+use base::written::place;
 use layouts::settings_layout;
 use layouts::settings_record;
 use set_access::set_channel_access::CommandAnswer;
@@ -19,7 +20,7 @@ pub(crate) fn set_written(request: &[u8], out: &mut [u8]) -> u64 {
 
 fn applied(command: SetChannelAccess, settings: &[u8; 10], out: &mut [u8]) -> u64 {
     match command.apply(settings_record(settings)) {
-        SettingsAnswer::Settings(after) => code(settings_layout(after, out)),
+        SettingsAnswer::Settings(after) => code(place(&settings_layout(after), out)),
         SettingsAnswer::NoForm => refused(Refusal::NoForm),
     }
 }
