@@ -122,7 +122,7 @@ def refusals(folder, log):
             yield function_at(folder, m.group(5), int(m.group(6))), m.group(7)
         elif "was not admitted" in m.group(4):
             continue
-        elif "that can be named from here" in m.group(4):
+        elif re.search(r"that can be named from here|has no field", m.group(4)):
             yield "a proof file that does not fit", m.group(3)
         elif m.group(2).endswith("/Proof"):
             yield m.group(2)[:-len("/Proof")].replace("/", "."), m.group(3)

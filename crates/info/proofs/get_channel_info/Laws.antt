@@ -10,9 +10,9 @@ use lib.ListN.{length}
 use Rattle.base.specs.Connection.{channelOf, channelField}
 use Rattle.base.specs.Field.{Bytes, bits, byte, within}
 use Rattle.base.specs.Little.{little, littleBytes}
-use Rattle.base.specs.Outcome.{accepted, refused, _>>=_}
+use Rattle.base.specs.Outcome.{Outcome, accepted, refused, _>>=_}
 use Rattle.base.specs.declared.connection.Channel.{Channel}
-use Rattle.base.proofs.Outcome.{otherwise, unfaulted, steps, Only, only-steps, inside, ranged, only-ranged}
+use Rattle.base.proofs.Outcome.{apart, otherwise, steps, Only, only-steps, inside, ranged, only-ranged}
 use Rattle.base.proofs.Rows.{NoForm, nine, Strict, strict}
 use Rattle.base.proofs.connection.Laws.{channel-iff, channel-small, begins-only, no-channel-form}
 use Rattle.base.proofs.field.Laws.{so-long}
@@ -103,15 +103,19 @@ info-bytes i s b e =
 
 -- The writer writes every record that some response, a string of bytes, gives.
 pub info-given : (s : List ℕ) (i : ChannelInfo) → Bytes s → infoOf s ≡ accepted i → (t : List ℕ) × (infoBytes i ≡ accepted t)
-info-given s i b e =
-    let (_, f) = otherwise 1 (ltb (length s) 9) e in
-    let (c, ec, g) = steps (channelOf (bits 0 4 (byte 0 s))) (λ c. accepted (infoFields s c)) (unfaulted 1 (channelOf (bits 0 4 (byte 0 s)) >>= λ c. accepted (infoFields s c)) f) in
-    let z : infoFields s c ≡ i = cc in
-    let r = byte 3 s in
-    let v : little (byte 4 s ∷ byte 5 s ∷ byte 6 s ∷ []) ≤ 0xFFFFFF = omega (arith, a-byte s b 4, a-byte s b 5, a-byte s b 6) in
-    rw
-    (← z, channel-iff (bits 0 4 (byte 0 s)) c .0 ec, medium-given (bits 0 7 (byte 1 s)) (omega arith), protocol-given (bits 0 5 (byte 2 s)) (omega arith), session-given (bits 6 2 r) (omega arith), inside (bits 0 6 r) 0 0x3F (bits 0 6 r) 9 (omega arith) (omega arith), inside (little (byte 4 s ∷ byte 5 s ∷ byte 6 s ∷ [])) 0 0xFFFFFF (little (byte 4 s ∷ byte 5 s ∷ byte 6 s ∷ [])) 9 (omega arith) v)
-    (_, refl)
+info-given s i b e = go (channelOf (bits 0 4 (byte 0 s))) refl
+  where
+    go : (y : Outcome Channel) → channelOf (bits 0 4 (byte 0 s)) ≡ y → (t : List ℕ) × (infoBytes i ≡ accepted t)
+    go (refused n v) q = let (_, f) = otherwise 1 (ltb (length s) 9) e in absurd (apart (rw q at f))
+    go (accepted c) q =
+        let (_, f) = otherwise 1 (ltb (length s) 9) e in
+        let g = rw q at f in
+        let z : infoFields s c ≡ i = cc in
+        let r = byte 3 s in
+        let v : little (byte 4 s ∷ byte 5 s ∷ byte 6 s ∷ []) ≤ 0xFFFFFF = omega (arith, a-byte s b 4, a-byte s b 5, a-byte s b 6) in
+        rw
+        (← z, channel-iff (bits 0 4 (byte 0 s)) c .0 q, medium-given (bits 0 7 (byte 1 s)) (omega arith), protocol-given (bits 0 5 (byte 2 s)) (omega arith), session-given (bits 6 2 r) (omega arith), inside (bits 0 6 r) 0 0x3F (bits 0 6 r) 9 (omega arith) (omega arith), inside (little (byte 4 s ∷ byte 5 s ∷ byte 6 s ∷ [])) 0 0xFFFFFF (little (byte 4 s ∷ byte 5 s ∷ byte 6 s ∷ [])) 9 (omega arith) v)
+        (_, refl)
 
 info-only : (i : ChannelInfo) → Only 9 (infoBytes i)
 info-only i =
