@@ -116,13 +116,14 @@ def function_at(folder, file, line):
 def refusals(folder, log):
     """All places that a log of the prover names, in its order: a function and a need of its proof, or a file and a law. What is refused
     only because something before it was is left out, and what says that a proof file does not fit the code any more is no fact."""
-    places = r"/(proofs|specs)/([^\s:]*)\.antt:\d+:\d+: error: `([^`]*)`(.*)|/src/(\w+)\.rt:(\d+):\d+: it is not proved that .* \(`([^`]*)`\)"
+    places = r"/(proofs|specs)/([^\s:]*)\.antt:\d+:\d+: error: `([^`]*)`|/src/(\w+)\.rt:(\d+):\d+: it is not proved that .* \(`([^`]*)`\)"
     for m in re.finditer(places, log):
-        if m.group(5):
-            yield function_at(folder, m.group(5), int(m.group(6))), m.group(7)
-        elif "was not admitted" in m.group(4):
+        said = log[m.start():].split("\n/", 1)[0]
+        if m.group(4):
+            yield function_at(folder, m.group(4), int(m.group(5))), m.group(6)
+        elif "was not admitted" in said:
             continue
-        elif re.search(r"that can be named from here|has no field", m.group(4)):
+        elif re.search(r"that can be named from here|has no\s+field", said):
             yield "a proof file that does not fit", m.group(3)
         elif m.group(2).endswith("/Proof"):
             yield m.group(2)[:-len("/Proof")].replace("/", "."), m.group(3)
