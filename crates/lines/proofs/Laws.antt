@@ -63,7 +63,7 @@ pair-small a b c n e = let (h, l, p, q, z) = pair-is a b c n e in omega (arith, 
 
 -- 0 of what is accepted
 abbrev flag : Outcome ℕ → ℕ
-flag o = if isAccepted o then 0 else 1
+flag o = if isAccepted o then 0 else 2
 
 abbrev pub noSpace : ℕ → ℕ
 noSpace b = if eqb b space then 0 else 1
@@ -79,7 +79,7 @@ flag-range b first last v o = go (ltb b first) (ltb last b)
     go false true = refl
     go false false = refl
 
-pub digit-by-ranges : (b : ℕ) → (if b from 0x30 to 0x39 then 0 else if b from 0x41 to 0x46 then 0 else if b from 0x61 to 0x66 then 0 else 1) ≡ noDigit b
+pub digit-by-ranges : (b : ℕ) → (if b from 0x30 to 0x39 then 0 else if b from 0x41 to 0x46 then 0 else if b from 0x61 to 0x66 then 0 else 2) ≡ noDigit b
 digit-by-ranges b =
     let z = flag-range b 0x61 0x66 (b - 0x57) (refused 14 []) in
     let y = flag-range b 0x41 0x46 (b - 0x37) (if b from 0x61 to 0x66 then accepted (b - 0x57) else refused 14 []) in
