@@ -20,13 +20,13 @@ use Rattle.base.proofs.field.Laws.{below}
 use Rattle.base.proofs.little.Laws.{a-byte, bytes-back}
 use Rattle.access.specs.GetChannelAccess.{accessBytes, accessFields, accessOf, limitField, modeField}
 use Rattle.access.specs.declared.get_channel_access.ChannelAccess.{ChannelAccess}
-use Rattle.access.proofs.get_channel_access.Laws.{first, limit-back, limit-field, limit-value, mode-back, mode-field, mode-value}
+use Rattle.access.proofs.get_channel_access.Laws.{first, limit-kept, limit-field, limit-value, mode-kept, mode-field, mode-value}
 use Rattle.info.specs.GetChannelInfo.{infoFields, infoOf}
 use Rattle.info.specs.declared.get_channel_info.ChannelInfo.{ChannelInfo}
 use Rattle.media.proofs.get_channel_info.Laws.{medium-value, protocol-value, session-value}
 use Rattle.set_access.specs.SetChannelAccess.{commandBytes, commandFor, pairOf, partsBytes}
 use Rattle.set_access.specs.declared.set_channel_access.SetChannelAccess.{SetChannelAccess}
-use Rattle.set_access.proofs.set_channel_access.Laws.{pair-back, pair-field, parts-are}
+use Rattle.set_access.proofs.set_channel_access.Laws.{pair-kept, pair-field, parts-are}
 use Rattle.layouts.specs.Layouts.{accessFrom, accessLayout, accessRecord, infoLayout, isSet, setAccessLayout, settingsLayout, settingsRecord}
 
 -- From a response: each byte of the record is the response's own bits.
@@ -75,7 +75,7 @@ access-record-back a s e =
     let (m, em, f) = steps (modeField (a .«access_mode»)) (λ m. limitField (a .«privilege_level_limit») >>= λ l. accepted (two a m l)) e in
     let (l, el, g) = steps (limitField (a .«privilege_level_limit»)) (λ l. accepted (two a m l)) f in
     rw (mode-field (a .«access_mode») m em, limit-field (a .«privilege_level_limit») l el)
-    (simp (mode-back (a .«access_mode») m em .1, limit-back (a .«privilege_level_limit») l el .1, flag-back))
+    (simp (mode-kept (a .«access_mode») .1 m em .1, limit-kept (a .«privilege_level_limit») .1 l el .1, flag-back))
 
 -- A command that has a request is the one that its layout's numbers make.
 pub set-access-back : (k : SetChannelAccess) (s : List ℕ) → commandBytes k ≡ accepted s
@@ -86,7 +86,7 @@ set-access-back k s e =
     let (m, l, t, em, el, et, h) = parts-are k p ep in
     let c = channel-iff n (k .channel) .1 en in
     rw (value-new n (k .channel) c, pair-field (k .«mode_pair») m em, pair-field (k .«limit_pair») l el)
-    (rw (c, pair-back (k .«mode_pair») m em .1, pair-back (k .«limit_pair») l el .1, access-record-back (k .access) t et))
+    (rw (c, pair-kept (k .«mode_pair») .1 m em .1, pair-kept (k .«limit_pair») .1 l el .1, access-record-back (k .access) t et))
 
 -- What C gives: the bytes of an access record, each flag as 0 or 1, are the layout of what they make.
 

@@ -3,7 +3,7 @@ use mathlib.Core.Logic.{_↔_}
 use mathlib.Core.Path.{_≡_, refl, sym, _∙_, ap}
 use mathlib.Core.Bool.{Bool, true, false}
 use mathlib.Core.List.{List, [], _∷_}
-use Prim.Native.Nat.{ℕ, zero, suc, _+_, _*_, _%_, _≤_, _<_}
+use Prim.Native.Nat.{ℕ, _+_, _*_, _%_, _≤_, _<_}
 use native.Mathlib.Omega.{arith}
 use borrow.Author.Tests.{eqb-true}
 use lib.Bits.{bitOr}
@@ -23,10 +23,10 @@ use Rattle.access.specs.declared.get_channel_access.ChannelAccessType.th
 use Rattle.access.specs.declared.get_channel_access.ChannelPrivilegeLevel.{ChannelPrivilegeLevel}
 use Rattle.access.specs.declared.get_channel_access.ChannelPrivilegeLevel.the-variants as Level
 use Rattle.access.specs.declared.get_channel_access.GetChannelAccess.{GetChannelAccess}
-use Rattle.base.proofs.Outcome.{apart, otherwise, steps, Only, only-steps, ranged, only-ranged}
+use Rattle.base.proofs.Outcome.{apart, otherwise, steps, Only, only-steps}
 use Rattle.base.proofs.Rows.{NoForm, nine, Strict, strict}
 use Rattle.base.proofs.connection.Laws.{channel-iff, channel-small, no-channel-form}
-use Rattle.base.proofs.field.Laws.{below, bit-small, is-set, same, set-bit, so-long}
+use Rattle.base.proofs.field.Laws.{below, bit-small, is-set, Kept, one, ranging, set-bit, so-long, valued}
 
 -- Modes and limits: a number that is read is written again, and what is written is read again.
 
@@ -42,47 +42,37 @@ mode-given n h = below 8 (λ n. modeField (modeOf n)) accepted refl n (omega ari
 pub limit-given : (n : ℕ) → n ≤ 15 → limitField (limitOf n) ≡ accepted n
 limit-given n h = below 16 (λ n. limitField (limitOf n)) accepted refl n (omega arith)
 
-pub mode-back : (m : ChannelAccessMode) (n : ℕ) → modeField m ≡ accepted n → (n < 8) × (modeOf n ≡ m)
-mode-back Mode.Disabled n e = same modeOf 8 0 n (lit< tt) refl e
-mode-back Mode.PreBootOnly n e = same modeOf 8 1 n (lit< tt) refl e
-mode-back Mode.AlwaysAvailable n e = same modeOf 8 2 n (lit< tt) refl e
-mode-back Mode.Shared n e = same modeOf 8 3 n (lit< tt) refl e
-mode-back (Mode.Unknown v) n e = let w = ranged v 4 7 v 9 e in same modeOf 8 v n (omega arith) (mode-unknown v (w .0)) (cc)
+pub mode-kept : (m : ChannelAccessMode) → Kept modeOf 8 m (modeField m)
+mode-kept Mode.Disabled = one modeOf 8 0 (lit< tt) refl
+mode-kept Mode.PreBootOnly = one modeOf 8 1 (lit< tt) refl
+mode-kept Mode.AlwaysAvailable = one modeOf 8 2 (lit< tt) refl
+mode-kept Mode.Shared = one modeOf 8 3 (lit< tt) refl
+mode-kept (Mode.Unknown v) = ranging modeOf 8 4 7 v (lit< tt) λ l h. mode-unknown v l
 
-pub limit-back : (m : ChannelPrivilegeLevel) (n : ℕ) → limitField m ≡ accepted n → (n < 16) × (limitOf n ≡ m)
-limit-back Level.Reserved n e = same limitOf 16 0 n (lit< tt) refl e
-limit-back Level.Callback n e = same limitOf 16 1 n (lit< tt) refl e
-limit-back Level.User n e = same limitOf 16 2 n (lit< tt) refl e
-limit-back Level.Operator n e = same limitOf 16 3 n (lit< tt) refl e
-limit-back Level.Administrator n e = same limitOf 16 4 n (lit< tt) refl e
-limit-back Level.Oem n e = same limitOf 16 5 n (lit< tt) refl e
-limit-back (Level.Unknown v) n e = let w = ranged v 6 15 v 9 e in same limitOf 16 v n (omega arith) (limit-unknown v (w .0)) (cc)
+pub limit-kept : (m : ChannelPrivilegeLevel) → Kept limitOf 16 m (limitField m)
+limit-kept Level.Reserved = one limitOf 16 0 (lit< tt) refl
+limit-kept Level.Callback = one limitOf 16 1 (lit< tt) refl
+limit-kept Level.User = one limitOf 16 2 (lit< tt) refl
+limit-kept Level.Operator = one limitOf 16 3 (lit< tt) refl
+limit-kept Level.Administrator = one limitOf 16 4 (lit< tt) refl
+limit-kept Level.Oem = one limitOf 16 5 (lit< tt) refl
+limit-kept (Level.Unknown v) = ranging limitOf 16 6 15 v (lit< tt) λ l h. limit-unknown v l
 
 -- What is read from a number has that number as its value.
 
 pub mode-value : (n : ℕ) → modeValue (modeOf n) ≡ n
-mode-value zero = refl
-mode-value (suc zero) = refl
-mode-value (suc (suc zero)) = refl
-mode-value (suc (suc (suc zero))) = refl
-mode-value (suc (suc (suc (suc n)))) = ap modeValue (mode-unknown (suc (suc (suc (suc n)))) (omega arith))
+mode-value = valued modeValue modeOf 4 refl λ n past. ap modeValue (mode-unknown n past)
 
 pub limit-value : (n : ℕ) → limitValue (limitOf n) ≡ n
-limit-value zero = refl
-limit-value (suc zero) = refl
-limit-value (suc (suc zero)) = refl
-limit-value (suc (suc (suc zero))) = refl
-limit-value (suc (suc (suc (suc zero)))) = refl
-limit-value (suc (suc (suc (suc (suc zero))))) = refl
-limit-value (suc (suc (suc (suc (suc (suc n)))))) = ap limitValue (limit-unknown (suc (suc (suc (suc (suc (suc n)))))) (omega arith))
+limit-value = valued limitValue limitOf 6 refl λ n past. ap limitValue (limit-unknown n past)
 
 -- What is in a field is the value.
 
 pub mode-field : (m : ChannelAccessMode) (n : ℕ) → modeField m ≡ accepted n → modeValue m ≡ n
-mode-field m n e = ap modeValue (sym (mode-back m n e .1)) ∙ mode-value n
+mode-field m n e = ap modeValue (sym (mode-kept m .1 n e .1)) ∙ mode-value n
 
 pub limit-field : (m : ChannelPrivilegeLevel) (n : ℕ) → limitField m ≡ accepted n → limitValue m ≡ n
-limit-field m n e = ap limitValue (sym (limit-back m n e .1)) ∙ limit-value n
+limit-field m n e = ap limitValue (sym (limit-kept m .1 n e .1)) ∙ limit-value n
 
 -- Byte 0 of the response: what the machine puts together, and its four fields.
 
@@ -110,8 +100,8 @@ module _ (mode : ℕ) (user perMessage alerting : Bool) (small : mode < 8) where
 reads : (a : ChannelAccess) (m l : ℕ) → modeField (a .«access_mode») ≡ accepted m → limitField (a .«privilege_level_limit») ≡ accepted l
     → accessOf (first m (a .«user_level_auth_disabled») (a .«per_msg_auth_disabled») (a .«alerting_disabled») ∷ l ∷ []) ≡ accepted a
 reads a m l e f =
-    let (small, mode) = mode-back (a .«access_mode») m e in
-    let (low, limit) = limit-back (a .«privilege_level_limit») l f in
+    let (small, mode) = mode-kept (a .«access_mode») .1 m e in
+    let (low, limit) = limit-kept (a .«privilege_level_limit») .1 l f in
     let w = fields m (a .«user_level_auth_disabled») (a .«per_msg_auth_disabled») (a .«alerting_disabled») small in
     let z : bits 0 4 l ≡ l = omega arith in
     simp (w .0, w .1, w .2, w .3, z, mode, limit, is-set)
@@ -130,8 +120,8 @@ access-two a {s} e =
     let (m, em, f) = steps (modeField (a .«access_mode»)) _ e in
     let (l, el, g) = steps (limitField (a .«privilege_level_limit»)) _ f in
     let z : _≡_ {A = List ℕ} (first m (a .«user_level_auth_disabled») (a .«per_msg_auth_disabled») (a .«alerting_disabled») ∷ l ∷ []) s = cc in
-    let (small, _) = mode-back (a .«access_mode») m em in
-    let (low, _) = limit-back (a .«privilege_level_limit») l el in
+    let (small, _) = mode-kept (a .«access_mode») .1 m em in
+    let (low, _) = limit-kept (a .«privilege_level_limit») .1 l el in
     let u = bit-small (a .«user_level_auth_disabled») in
     let p = bit-small (a .«per_msg_auth_disabled») in
     let d = bit-small (a .«alerting_disabled») in
@@ -148,23 +138,7 @@ access-given s a e =
     rw (← z) (simp (mode-given (bits 0 3 (byte 0 s)) (omega arith), limit-given (bits 0 4 (byte 1 s)) (omega arith)) (_, refl))
 
 pub access-only : (a : ChannelAccess) → Only 9 (accessBytes a)
-access-only a = only-steps 9 (modeField (a .«access_mode»)) _ (mode-only (a .«access_mode»)) λ m. only-steps 9 (limitField (a .«privilege_level_limit»)) _ (limit-only (a .«privilege_level_limit»)) λ l. refl
-  where
-    mode-only : (m : ChannelAccessMode) → Only 9 (modeField m)
-    mode-only Mode.Disabled = refl
-    mode-only Mode.PreBootOnly = refl
-    mode-only Mode.AlwaysAvailable = refl
-    mode-only Mode.Shared = refl
-    mode-only (Mode.Unknown n) = only-ranged n 4 7 n 9
-
-    limit-only : (m : ChannelPrivilegeLevel) → Only 9 (limitField m)
-    limit-only Level.Reserved = refl
-    limit-only Level.Callback = refl
-    limit-only Level.User = refl
-    limit-only Level.Operator = refl
-    limit-only Level.Administrator = refl
-    limit-only Level.Oem = refl
-    limit-only (Level.Unknown n) = only-ranged n 6 15 n 9
+access-only a = only-steps 9 (modeField (a .«access_mode»)) _ (mode-kept (a .«access_mode») .0) λ m. only-steps 9 (limitField (a .«privilege_level_limit»)) _ (limit-kept (a .«privilege_level_limit») .0) λ l. refl
 
 -- Row 9: a record is refused 9 exactly where no response, a string of bytes, gives it.
 pub access-no-form : (a : ChannelAccess) → NoForm accessOf accessBytes a

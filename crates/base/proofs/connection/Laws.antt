@@ -7,7 +7,7 @@ use mathlib.Core.Option.{none, some}
 use Prim.Native.Nat.{ℕ, _≤_, _<_}
 use native.Mathlib.Omega.{arith}
 use borrow.Author.Tests.{eqb-true, ne-eqb, le-ltb}
-use lib.Dec.{eqb}
+use lib.Dec.{eqb, lit<}
 use Rattle.base.specs.Choice.{if_then_else_}
 use Rattle.base.specs.Connection.{channelOf, channelNumberOf, channelField, valueOf, units, unitOf, unitValue}
 use Rattle.base.specs.Field.{bits}
@@ -17,7 +17,8 @@ use Rattle.base.specs.declared.connection.Channel.the-variants.{Primary,
 use Rattle.base.specs.declared.connection.LogicalUnit.{LogicalUnit}
 use Rattle.base.specs.declared.connection.LogicalUnit.the-variants.{Zero, One, Two, Three}
 use Rattle.base.proofs.Named.{nothing, name-iff}
-use Rattle.base.proofs.Outcome.{apart, steps, Only, only-steps, only-refused, inside, ranged, only-ranged}
+use Rattle.base.proofs.Outcome.{apart, steps, Only, only-steps, only-refused, inside, ranged}
+use Rattle.base.proofs.field.Laws.{Kept, one, ranging}
 
 made : (n : ℕ) (c : Channel) → channelOf n ≡ accepted c → channelField c ≡ accepted n
 made n c e = go (eqb n 0) (eqb n 0xE) (eqb n 0xF) refl refl refl e
@@ -33,17 +34,17 @@ made n c e = go (eqb n 0) (eqb n 0xE) (eqb n 0xF) refl refl refl e
         let w = ranged n 1 0xB (record { 0 = n }) 6 f in
         cc (inside n 1 0xB n 9 (w .0) (w .1))
 
-makes : (c : Channel) (n : ℕ) → channelField c ≡ accepted n → channelOf n ≡ accepted c
-makes Primary n e = let z : 0 ≡ n = cc in rw (← z)
-makes (Numbered k) n e =
-    let w = ranged (k .0) 1 0xB (k .0) 9 e in
-    rw (← w .2) (simp (ne-eqb (k .0) 0 (λ h. omega arith), ne-eqb (k .0) 0xE (λ h. omega arith), ne-eqb (k .0) 0xF (λ h. omega arith), le-ltb (k .0) 1 (w .0), le-ltb 0xB (k .0) (w .1)))
-makes Current n e = let z : 0xE ≡ n = cc in rw (← z)
-makes System n e = let z : 0xF ≡ n = cc in rw (← z)
+-- four bits
+channel-kept : (c : Channel) → Kept channelOf 16 (accepted c) (channelField c)
+channel-kept Primary = one channelOf 16 0 (lit< tt) refl
+channel-kept (Numbered k) =
+    ranging channelOf 16 1 0xB (k .0) (lit< tt) λ l h. simp (ne-eqb (k .0) 0 (λ z. omega arith), ne-eqb (k .0) 0xE (λ z. omega arith), ne-eqb (k .0) 0xF (λ z. omega arith), le-ltb (k .0) 1 l, le-ltb 0xB (k .0) h)
+channel-kept Current = one channelOf 16 0xE (lit< tt) refl
+channel-kept System = one channelOf 16 0xF (lit< tt) refl
 
 -- a number makes exactly the channels that are written as it
 pub channel-iff : (n : ℕ) (c : Channel) → channelOf n ≡ accepted c ↔ channelField c ≡ accepted n
-channel-iff n c = (made n c, makes c n)
+channel-iff n c = (made n c, λ e. channel-kept c .1 n e .1)
 
 -- `Channel::value` gives back what `Channel::new` took
 pub value-new : (n : ℕ) (c : Channel) → channelOf n ≡ accepted c → valueOf c ≡ n
@@ -59,23 +60,13 @@ value-new n c e = go c (made n c e)
 pub new-value : (n : ℕ) (c : Channel) → channelOf n ≡ accepted c → channelOf (valueOf c) ≡ accepted c
 new-value n c e = rw (value-new n c e) e
 
-channel-only : (c : Channel) → Only 9 (channelField c)
-channel-only Primary = refl
-channel-only (Numbered k) = only-ranged (k .0) 1 0xB (k .0) 9
-channel-only Current = refl
-channel-only System = refl
-
--- a channel's number has four bits
 pub channel-small : (c : Channel) (n : ℕ) → channelField c ≡ accepted n → n < 16
-channel-small Primary n e = let z : 0 ≡ n = cc in omega arith
-channel-small (Numbered k) n e = let w = ranged (k .0) 1 0xB (k .0) 9 e in omega arith
-channel-small Current n e = let z : 0xE ≡ n = cc in omega arith
-channel-small System n e = let z : 0xF ≡ n = cc in omega arith
+channel-small c n e = channel-kept c .1 n e .0
 
 -- A message that begins with a channel is refused by 9 alone, and exactly where no number makes the channel.
 module _ (c : Channel) (message : ℕ → Outcome (List ℕ)) (rest : (n : ℕ) → Only 9 (message n)) where
   pub begins-only : Only 9 (channelField c >>= message)
-  begins-only = only-steps 9 (channelField c) message (channel-only c) rest
+  begins-only = only-steps 9 (channelField c) message (channel-kept c .0) rest
 
 pub no-channel-form : (c : Channel) (message : ℕ → List ℕ) → (channelField c >>= λ n. accepted (message n)) ≡ refused 9 [] ↔ ((n : ℕ) → channelOf n ≡ accepted c → ⊥)
 no-channel-form c message = (

@@ -11,8 +11,9 @@ use lib.Bits.{bitOr, or-shifted-r}
 use native.Mathlib.Nat.{add-comm, div-eq-of-lt, mod-eq-of-lt, zero-mod, one-mul, lt-of-lt-of-le, lt-of-le-of-lt}
 use native.Mathlib.Omega.{arith}
 use lib.Pow.{pow-mono, pow-lt, pow-pos, shr-le, shl-exact}
-use Rattle.base.specs.Field.{bits, byte, flag, flags, raised}
-use Rattle.base.specs.Outcome.{accepted}
+use Rattle.base.specs.Field.{bits, byte, flag, flags, raised, within}
+use Rattle.base.specs.Outcome.{Outcome, accepted, refused}
+use Rattle.base.proofs.Outcome.{apart, Only, ranged, only-ranged}
 
 -- a byte has no bit above 7
 pub past : (at width byte : ℕ) → byte < 256 → 7 < at → 0 ≡ bits at width byte
@@ -107,9 +108,28 @@ pub none-of : (n k : ℕ) → NoneOf n k → k ≤ n
 none-of n zero p = omega arith
 none-of n (suc k) p = let h = none-of n k (p .0) in let ne = p .1 in omega arith
 
--- k is the number of m, and so is n
-pub same : {A : Type 0} (read : ℕ → A) (bound k n : ℕ) {m : A} → k < bound → read k ≡ m → accepted k ≡ accepted n → (n < bound) × (read n ≡ m)
-same read bound k n h g e = let z : k ≡ n = cc in rw (← z) (h, g)
+-- What is written for m is refused by 9 alone, or is a number below the bound that is read as m:
+abbrev pub Kept : {A : Type 0} → (ℕ → A) → ℕ → A → Outcome ℕ → Type 0
+Kept read bound m field = Only 9 field × ((n : ℕ) → field ≡ accepted n → (n < bound) × (read n ≡ m))
+
+-- one number, a number of a range, or none.
+module _ {A : Type 0} (read : ℕ → A) (bound : ℕ) {m : A} where
+  pub one : (k : ℕ) → k < bound → read k ≡ m → Kept read bound m (accepted k)
+  one k h g = (refl, λ n e. let z : k ≡ n = cc in rw (← z) (h, g))
+
+  pub ranging : (first last k : ℕ) → last < bound → (first ≤ k → k ≤ last → read k ≡ m) → Kept read bound m (within first last k)
+  ranging first last k h g = (only-ranged k first last k 9, λ n e. let (l, u, z) = ranged k first last k 9 e in rw (← z) (omega arith, g l u))
+
+  pub never : Kept read bound m (refused 9 [])
+  never = (refl, λ n e. absurd (apart e))
+
+-- What is read from a number has that number as its value, if it is so below k, which is computed, and past that.
+pub valued : {A : Type 0} (value : A → ℕ) (read : ℕ → A) (k : ℕ) → upTo k (λ n. value (read n)) ≡ upTo k (λ n. n) → ((n : ℕ) → k ≤ n → value (read n) ≡ n) → (n : ℕ) → value (read n) ≡ n
+valued value read k test past n = go (ltb n k) refl
+  where
+    go : (x : Bool) → ltb n k ≡ x → value (read n) ≡ n
+    go true p = below k (λ n. value (read n)) (λ n. n) test n (ltb-true n k p)
+    go false p = past n (ltb-false n k p)
 
 -- A list is its bytes, one by one.
 

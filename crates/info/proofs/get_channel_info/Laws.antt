@@ -18,7 +18,7 @@ use Rattle.base.proofs.connection.Laws.{channel-iff, channel-small, begins-only
 use Rattle.base.proofs.field.Laws.{so-long}
 use Rattle.base.proofs.little.Laws.{a-byte, bytes-are, number-back}
 use Rattle.media.specs.Media.{mediumField, protocolField, sessionField}
-use Rattle.media.proofs.get_channel_info.Laws.{medium-back, medium-given, medium-only, protocol-back, protocol-given, protocol-only, session-back, session-given, session-only}
+use Rattle.media.proofs.get_channel_info.Laws.{medium-given, medium-kept, protocol-given, protocol-kept, session-given, session-kept}
 use Rattle.info.specs.GetChannelInfo.{Typed, command, commandBytes, commandOf, infoBytes, infoFields, infoOf}
 use Rattle.info.specs.declared.get_channel_info.ChannelInfo.{ChannelInfo}
 use Rattle.info.specs.declared.get_channel_info.GetChannelInfo.{GetChannelInfo}
@@ -79,9 +79,9 @@ pub info-back : (i : ChannelInfo) (s : List ℕ) → infoBytes i ≡ accepted s 
 info-back i s e =
     let w = info-packed i s e in
     let a = i .«active_sessions» in
-    let (lm, fm) = medium-back (i .«medium_type») (w .medium) (w .medium-is) in
-    let (lp, fp) = protocol-back (i .«protocol_type») (w .protocol) (w .protocol-is) in
-    let (ls, fs) = session-back (i .«session_support») (w .session) (w .session-is) in
+    let (lm, fm) = medium-kept (i .«medium_type») .1 (w .medium) (w .medium-is) in
+    let (lp, fp) = protocol-kept (i .«protocol_type») .1 (w .protocol) (w .protocol-is) in
+    let (ls, fs) = session-kept (i .«session_support») .1 (w .session) (w .session-is) in
     let lc = channel-small (i .channel) (w .channel) (w .channel-is) in
     let zc : bits 0 4 (w .channel) ≡ w .channel = omega arith in
     let zm : bits 0 7 (w .medium) ≡ w .medium = omega arith in
@@ -94,9 +94,9 @@ info-back i s e =
 info-bytes : (i : ChannelInfo) (s : List ℕ) → Typed i → infoBytes i ≡ accepted s → Bytes s
 info-bytes i s b e =
     let w = info-packed i s e in
-    let lm = medium-back (i .«medium_type») (w .medium) (w .medium-is) .0 in
-    let lp = protocol-back (i .«protocol_type») (w .protocol) (w .protocol-is) .0 in
-    let ls = session-back (i .«session_support») (w .session) (w .session-is) .0 in
+    let lm = medium-kept (i .«medium_type») .1 (w .medium) (w .medium-is) .0 in
+    let lp = protocol-kept (i .«protocol_type») .1 (w .protocol) (w .protocol-is) .0 in
+    let ls = session-kept (i .«session_support») .1 (w .session) (w .session-is) .0 in
     let lc = channel-small (i .channel) (w .channel) (w .channel-is) in
     let v = bytes-are 3 (i .«vendor_id») (i .«aux_info» .byte1 ∷ i .«aux_info» .byte2 ∷ []) b in
     rw (← w .all) (omega arith, (omega arith, (omega arith, (omega arith, v))))
@@ -119,9 +119,9 @@ info-given s i b e = go (channelOf (bits 0 4 (byte 0 s))) refl
 
 info-only : (i : ChannelInfo) → Only 9 (infoBytes i)
 info-only i =
-    begins-only (i .channel) _ λ c. only-steps 9 (mediumField (i .«medium_type»)) _ (medium-only (i .«medium_type»))
-    λ m. only-steps 9 (protocolField (i .«protocol_type»)) _ (protocol-only (i .«protocol_type»))
-    λ p. only-steps 9 (sessionField (i .«session_support»)) _ (session-only (i .«session_support»))
+    begins-only (i .channel) _ λ c. only-steps 9 (mediumField (i .«medium_type»)) _ (medium-kept (i .«medium_type») .0)
+    λ m. only-steps 9 (protocolField (i .«protocol_type»)) _ (protocol-kept (i .«protocol_type») .0)
+    λ p. only-steps 9 (sessionField (i .«session_support»)) _ (session-kept (i .«session_support») .0)
     λ s. only-steps 9 (within 0 0x3F (i .«active_sessions»)) _ (only-ranged (i .«active_sessions») 0 0x3F (i .«active_sessions») 9)
     λ a. only-steps 9 (within 0 0xFFFFFF (i .«vendor_id»)) _ (only-ranged (i .«vendor_id») 0 0xFFFFFF (i .«vendor_id») 9) λ v. refl
 

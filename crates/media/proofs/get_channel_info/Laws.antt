@@ -3,14 +3,13 @@ use mathlib.Core.Path.{_≡_, refl, ap}
 use mathlib.Core.Bool.{Bool, true, false}
 use Prim.Native.Nat.{ℕ, _≤_, _<_}
 use native.Mathlib.Omega.{arith}
-use borrow.Author.Tests.{eqb-true, lt-ltb, le-ltb, ltb-true, ltb-false}
+use borrow.Author.Tests.{eqb-true, lt-ltb, le-ltb}
 use lib.Dec.{eqb, ltb, lit<}
 use lib.ListN.{List·getD-eq-default}
 use Rattle.base.specs.Choice.{if_then_else_, if_from_to_then_else_}
 use Rattle.base.specs.Field.{within}
 use Rattle.base.specs.Outcome.{accepted}
-use Rattle.base.proofs.Outcome.{apart, Only, ranged, only-ranged}
-use Rattle.base.proofs.field.Laws.{below, same, upTo}
+use Rattle.base.proofs.field.Laws.{below, Kept, one, ranging, never, valued}
 use Rattle.media.specs.Media.{mediums, mediumField, mediumOf, mediumValue, protocols, protocolField, protocolOf, protocolValue, sessions, sessionField, sessionOf, sessionValue}
 use Rattle.media.specs.declared.get_channel_info.ChannelMediumType.{ChannelMediumType}
 use Rattle.media.specs.declared.get_channel_info.ChannelMediumType.the-variants as Medium
@@ -52,14 +51,6 @@ session-other n h = List·getD-eq-default sessions (Session.Reserved n) h
 
 -- What is read from a number has that number as its value.
 
--- so it is for each number, if it is for those below k, which is computed, and for those past them
-valued : {A : Type 0} (value : A → ℕ) (read : ℕ → A) (k : ℕ) → upTo k (λ n. value (read n)) ≡ upTo k (λ n. n) → ((n : ℕ) → k ≤ n → value (read n) ≡ n) → (n : ℕ) → value (read n) ≡ n
-valued value read k test past n = go (ltb n k) refl
-  where
-    go : (x : Bool) → ltb n k ≡ x → value (read n) ≡ n
-    go true p = below k (λ n. value (read n)) (λ n. n) test n (ltb-true n k p)
-    go false p = past n (ltb-false n k p)
-
 -- whichever of two it is that holds the number
 either : {A : Type 0} (value : A → ℕ) (n first last : ℕ) (a b : A) → value a ≡ n → value b ≡ n → value (if n from first to last then a else b) ≡ n
 either value n first last a b p q = go (ltb n first) (ltb last n)
@@ -78,7 +69,7 @@ protocol-value = valued protocolValue protocolOf 0x0A refl λ n past. rw (protoc
 pub session-value : (n : ℕ) → sessionValue (sessionOf n) ≡ n
 session-value = valued sessionValue sessionOf 4 refl λ n past. ap sessionValue (session-other n past)
 
--- A number that is read is written again, and what is written is read again.
+-- A number that is read is written again, and what is written is read again; what has no form in a message is refused by 9.
 
 pub medium-given : (n : ℕ) → n < 0x80 → mediumField (mediumOf n) ≡ accepted n
 medium-given = below 0x80 (λ n. mediumField (mediumOf n)) accepted refl
@@ -89,86 +80,43 @@ protocol-given = below 0x20 (λ n. protocolField (protocolOf n)) accepted refl
 pub session-given : (n : ℕ) → n < 4 → sessionField (sessionOf n) ≡ accepted n
 session-given = below 4 (λ n. sessionField (sessionOf n)) accepted refl
 
-pub medium-back : (m : ChannelMediumType) (n : ℕ) → mediumField m ≡ accepted n → (n < 0x80) × (mediumOf n ≡ m)
-medium-back Medium.Reserved n e = same mediumOf 0x80 0 n (lit< tt) refl e
-medium-back Medium.Ipmb n e = same mediumOf 0x80 1 n (lit< tt) refl e
-medium-back Medium.IcmbV1_0 n e = same mediumOf 0x80 2 n (lit< tt) refl e
-medium-back Medium.IcmbV0_9 n e = same mediumOf 0x80 3 n (lit< tt) refl e
-medium-back Medium.Lan802_3 n e = same mediumOf 0x80 4 n (lit< tt) refl e
-medium-back Medium.AsynchSerialModem n e = same mediumOf 0x80 5 n (lit< tt) refl e
-medium-back Medium.OtherLan n e = same mediumOf 0x80 6 n (lit< tt) refl e
-medium-back Medium.PciSmbus n e = same mediumOf 0x80 7 n (lit< tt) refl e
-medium-back Medium.SmbusV1_0 n e = same mediumOf 0x80 8 n (lit< tt) refl e
-medium-back Medium.SmbusV2_0 n e = same mediumOf 0x80 9 n (lit< tt) refl e
-medium-back Medium.Usb1X n e = same mediumOf 0x80 10 n (lit< tt) refl e
-medium-back Medium.Usb2X n e = same mediumOf 0x80 11 n (lit< tt) refl e
-medium-back Medium.SystemInterface n e = same mediumOf 0x80 12 n (lit< tt) refl e
-medium-back (Medium.Oem v) n e = let w = ranged v 0x60 0x7F v 9 e in same mediumOf 0x80 v n (omega arith) (medium-oem v (omega arith) (w .0) (w .1)) (cc)
-medium-back (Medium.ReservedValue v) n e = let w = ranged v 0x0D 0x5F v 9 e in same mediumOf 0x80 v n (omega arith) (medium-low v (w .0) (omega arith)) (cc)
+pub medium-kept : (m : ChannelMediumType) → Kept mediumOf 0x80 m (mediumField m)
+medium-kept Medium.Reserved = one mediumOf 0x80 0 (lit< tt) refl
+medium-kept Medium.Ipmb = one mediumOf 0x80 1 (lit< tt) refl
+medium-kept Medium.IcmbV1_0 = one mediumOf 0x80 2 (lit< tt) refl
+medium-kept Medium.IcmbV0_9 = one mediumOf 0x80 3 (lit< tt) refl
+medium-kept Medium.Lan802_3 = one mediumOf 0x80 4 (lit< tt) refl
+medium-kept Medium.AsynchSerialModem = one mediumOf 0x80 5 (lit< tt) refl
+medium-kept Medium.OtherLan = one mediumOf 0x80 6 (lit< tt) refl
+medium-kept Medium.PciSmbus = one mediumOf 0x80 7 (lit< tt) refl
+medium-kept Medium.SmbusV1_0 = one mediumOf 0x80 8 (lit< tt) refl
+medium-kept Medium.SmbusV2_0 = one mediumOf 0x80 9 (lit< tt) refl
+medium-kept Medium.Usb1X = one mediumOf 0x80 10 (lit< tt) refl
+medium-kept Medium.Usb2X = one mediumOf 0x80 11 (lit< tt) refl
+medium-kept Medium.SystemInterface = one mediumOf 0x80 12 (lit< tt) refl
+medium-kept (Medium.Oem v) = ranging mediumOf 0x80 0x60 0x7F v (lit< tt) λ l h. medium-oem v (omega arith) l h
+medium-kept (Medium.ReservedValue v) = ranging mediumOf 0x80 0x0D 0x5F v (lit< tt) λ l h. medium-low v l (omega arith)
 
-pub protocol-back : (m : ChannelProtocolType) (n : ℕ) → protocolField m ≡ accepted n → (n < 0x20) × (protocolOf n ≡ m)
-protocol-back Protocol.Reserved n e = same protocolOf 0x20 0 n (lit< tt) refl e
-protocol-back Protocol.IpmbV1_0 n e = same protocolOf 0x20 1 n (lit< tt) refl e
-protocol-back Protocol.IcmbV1_0 n e = same protocolOf 0x20 2 n (lit< tt) refl e
-protocol-back Protocol.IpmiSmbus n e = same protocolOf 0x20 4 n (lit< tt) refl e
-protocol-back Protocol.Kcs n e = same protocolOf 0x20 5 n (lit< tt) refl e
-protocol-back Protocol.Smic n e = same protocolOf 0x20 6 n (lit< tt) refl e
-protocol-back Protocol.Bt10 n e = same protocolOf 0x20 7 n (lit< tt) refl e
-protocol-back Protocol.Bt15 n e = same protocolOf 0x20 8 n (lit< tt) refl e
-protocol-back Protocol.TerminalMode n e = same protocolOf 0x20 9 n (lit< tt) refl e
-protocol-back (Protocol.Oem v) n e = let w = ranged v 0x1C 0x1F v 9 e in same protocolOf 0x20 v n (omega arith) (protocol-oem v (omega arith) (w .0) (w .1)) (cc)
-protocol-back (Protocol.ReservedValue v) n e = go (eqb v 3) refl e
+pub protocol-kept : (m : ChannelProtocolType) → Kept protocolOf 0x20 m (protocolField m)
+protocol-kept Protocol.Reserved = one protocolOf 0x20 0 (lit< tt) refl
+protocol-kept Protocol.IpmbV1_0 = one protocolOf 0x20 1 (lit< tt) refl
+protocol-kept Protocol.IcmbV1_0 = one protocolOf 0x20 2 (lit< tt) refl
+protocol-kept Protocol.IpmiSmbus = one protocolOf 0x20 4 (lit< tt) refl
+protocol-kept Protocol.Kcs = one protocolOf 0x20 5 (lit< tt) refl
+protocol-kept Protocol.Smic = one protocolOf 0x20 6 (lit< tt) refl
+protocol-kept Protocol.Bt10 = one protocolOf 0x20 7 (lit< tt) refl
+protocol-kept Protocol.Bt15 = one protocolOf 0x20 8 (lit< tt) refl
+protocol-kept Protocol.TerminalMode = one protocolOf 0x20 9 (lit< tt) refl
+protocol-kept (Protocol.Oem v) = ranging protocolOf 0x20 0x1C 0x1F v (lit< tt) λ l h. protocol-oem v (omega arith) l h
+protocol-kept (Protocol.ReservedValue v) = go (eqb v 3) refl
   where
-    go : (x : Bool) → eqb v 3 ≡ x → (if x then accepted 3 else within 0x0A 0x1B v) ≡ accepted n → (n < 0x20) × (protocolOf n ≡ Protocol.ReservedValue v)
-    go true p e = same protocolOf 0x20 3 n (lit< tt) (rw (eqb-true v 3 p)) e
-    go false p e = let w = ranged v 0x0A 0x1B v 9 e in same protocolOf 0x20 v n (omega arith) (protocol-low v (w .0) (omega arith)) (cc)
+    go : (x : Bool) → eqb v 3 ≡ x → Kept protocolOf 0x20 (Protocol.ReservedValue v) (if x then accepted 3 else within 0x0A 0x1B v)
+    go true p = one protocolOf 0x20 3 (lit< tt) (rw (eqb-true v 3 p))
+    go false p = ranging protocolOf 0x20 0x0A 0x1B v (lit< tt) λ l h. protocol-low v l (omega arith)
 
-pub session-back : (m : ChannelSessionSupport) (n : ℕ) → sessionField m ≡ accepted n → (n < 4) × (sessionOf n ≡ m)
-session-back Session.Sessionless n e = same sessionOf 4 0 n (lit< tt) refl e
-session-back Session.SingleSession n e = same sessionOf 4 1 n (lit< tt) refl e
-session-back Session.MultiSession n e = same sessionOf 4 2 n (lit< tt) refl e
-session-back Session.SessionBased n e = same sessionOf 4 3 n (lit< tt) refl e
-session-back (Session.Reserved v) n e = absurd (apart e)
-
--- What has no form in a message is refused by 9 alone.
-
-pub medium-only : (m : ChannelMediumType) → Only 9 (mediumField m)
-medium-only Medium.Reserved = refl
-medium-only Medium.Ipmb = refl
-medium-only Medium.IcmbV1_0 = refl
-medium-only Medium.IcmbV0_9 = refl
-medium-only Medium.Lan802_3 = refl
-medium-only Medium.AsynchSerialModem = refl
-medium-only Medium.OtherLan = refl
-medium-only Medium.PciSmbus = refl
-medium-only Medium.SmbusV1_0 = refl
-medium-only Medium.SmbusV2_0 = refl
-medium-only Medium.Usb1X = refl
-medium-only Medium.Usb2X = refl
-medium-only Medium.SystemInterface = refl
-medium-only (Medium.Oem n) = only-ranged n 0x60 0x7F n 9
-medium-only (Medium.ReservedValue n) = only-ranged n 0x0D 0x5F n 9
-
-pub protocol-only : (m : ChannelProtocolType) → Only 9 (protocolField m)
-protocol-only Protocol.Reserved = refl
-protocol-only Protocol.IpmbV1_0 = refl
-protocol-only Protocol.IcmbV1_0 = refl
-protocol-only Protocol.IpmiSmbus = refl
-protocol-only Protocol.Kcs = refl
-protocol-only Protocol.Smic = refl
-protocol-only Protocol.Bt10 = refl
-protocol-only Protocol.Bt15 = refl
-protocol-only Protocol.TerminalMode = refl
-protocol-only (Protocol.Oem n) = only-ranged n 0x1C 0x1F n 9
-protocol-only (Protocol.ReservedValue n) = go (eqb n 3)
-  where
-    go : (x : Bool) → Only 9 (if x then accepted 3 else within 0x0A 0x1B n)
-    go true = refl
-    go false = only-ranged n 0x0A 0x1B n 9
-
-pub session-only : (m : ChannelSessionSupport) → Only 9 (sessionField m)
-session-only Session.Sessionless = refl
-session-only Session.SingleSession = refl
-session-only Session.MultiSession = refl
-session-only Session.SessionBased = refl
-session-only (Session.Reserved n) = refl
+pub session-kept : (m : ChannelSessionSupport) → Kept sessionOf 4 m (sessionField m)
+session-kept Session.Sessionless = one sessionOf 4 0 (lit< tt) refl
+session-kept Session.SingleSession = one sessionOf 4 1 (lit< tt) refl
+session-kept Session.MultiSession = one sessionOf 4 2 (lit< tt) refl
+session-kept Session.SessionBased = one sessionOf 4 3 (lit< tt) refl
+session-kept (Session.Reserved v) = never sessionOf 4

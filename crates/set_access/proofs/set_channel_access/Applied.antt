@@ -22,7 +22,7 @@ use Rattle.set_access.specs.SetChannelAccess.{applied, changed, chosen, 
 use Rattle.set_access.specs.declared.set_channel_access.AccessPair.the-variants as Pair
 use Rattle.set_access.specs.declared.set_channel_access.ChannelSettings.{ChannelSettings}
 use Rattle.set_access.specs.declared.set_channel_access.SetChannelAccess.{SetChannelAccess}
-use Rattle.set_access.proofs.set_channel_access.Laws.{pair-back, parts-are, parts-only}
+use Rattle.set_access.proofs.set_channel_access.Laws.{pair-kept, parts-are, parts-only}
 
 -- the setting that a Get of either kind asks for
 abbrev pub settingOf : ChannelAccessType → ChannelSettings → ChannelAccess
@@ -131,8 +131,8 @@ get-bytes k x y z w before after e kind f l g =
     let (p, ep, w2) = steps (partsBytes k) (λ p. accepted (c ∷ p)) w1 in
     let (m, n, t, em, en, et, h) = parts-are k p ep in
     let (long, first, second) = access-two (k .access) et in
-    let (sm, pm) = pair-back (k .«mode_pair») m em in
-    let (sn, pn) = pair-back (k .«limit_pair») n en in
+    let (sm, pm) = pair-kept (k .«mode_pair») .1 m em in
+    let (sn, pn) = pair-kept (k .«limit_pair») .1 n en in
     let ey : y ≡ byte 0 t + m * 2 ^ 6 = cc in
     let ez : z ≡ byte 1 t + n * 2 ^ 6 = cc in
     let ym : bits 6 2 y ≡ m = omega arith in

@@ -22,7 +22,7 @@ use Rattle.base.specs.declared.written.Written.the-variants.{Length, Refused}
 use Rattle.base.proofs.Outcome.{apart, steps, Only, only-steps, ranged}
 use Rattle.base.proofs.Rows.{NoForm, nine, Strict, strict}
 use Rattle.base.proofs.connection.Laws.{begins-only, channel-iff, channel-small}
-use Rattle.base.proofs.field.Laws.{below, same, so-long}
+use Rattle.base.proofs.field.Laws.{below, Kept, one, never, so-long}
 use Rattle.base.proofs.little.Laws.{a-byte}
 use Rattle.base.proofs.written.Laws.{filled}
 use Rattle.access.specs.GetChannelAccess.{accessBytes, accessFields, accessOf}
@@ -41,11 +41,11 @@ pair-reserved n h = List·getD-eq-default pairs Reserved h
 pair-given : (n : ℕ) → n < 3 → pairField (pairOf n) ≡ accepted n
 pair-given n h = below 3 (λ n. pairField (pairOf n)) accepted refl n h
 
-pub pair-back : (p : AccessPair) (n : ℕ) → pairField p ≡ accepted n → (n < 3) × (pairOf n ≡ p)
-pair-back Leave n e = same pairOf 3 0 n (lit< tt) refl e
-pair-back NonVolatile n e = same pairOf 3 1 n (lit< tt) refl e
-pair-back Volatile n e = same pairOf 3 2 n (lit< tt) refl e
-pair-back Reserved n e = absurd (apart e)
+pub pair-kept : (p : AccessPair) → Kept pairOf 3 p (pairField p)
+pair-kept Leave = one pairOf 3 0 (lit< tt) refl
+pair-kept NonVolatile = one pairOf 3 1 (lit< tt) refl
+pair-kept Volatile = one pairOf 3 2 (lit< tt) refl
+pair-kept Reserved = never pairOf 3
 
 -- The value is the two bits as they were read, and what is in a field is the value.
 
@@ -53,10 +53,10 @@ pub pair-value : (n : ℕ) → n < 4 → pairValue (pairOf n) ≡ n
 pair-value n h = below 4 (λ n. pairValue (pairOf n)) (λ n. n) refl n h
 
 pub pair-field : (p : AccessPair) (n : ℕ) → pairField p ≡ accepted n → pairValue p ≡ n
-pair-field p n e = let (small, z) = pair-back p n e in rw (← z) (pair-value n (omega arith))
+pair-field p n e = let (small, z) = pair-kept p .1 n e in rw (← z) (pair-value n (omega arith))
 
 pair-iff : (byte : ℕ) (p : AccessPair) → pairIn byte ≡ accepted p ↔ pairField p ≡ accepted (bits 6 2 byte)
-pair-iff byte p = (go (ltb (bits 6 2 byte) 3) refl, λ e. let z = pair-back p (bits 6 2 byte) e .1 in rw (z, e))
+pair-iff byte p = (go (ltb (bits 6 2 byte) 3) refl, λ e. let z = pair-kept p .1 (bits 6 2 byte) e .1 in rw (z, e))
   where
     go : (x : Bool) → ltb (bits 6 2 byte) 3 ≡ x → pairIn byte ≡ accepted p → pairField p ≡ accepted (bits 6 2 byte)
     go true h e =
@@ -155,8 +155,8 @@ given : (k : SetChannelAccess) (x m l : ℕ) (t : List ℕ) → channelField (k 
     → reading x (byte 0 t + m * 2 ^ 6) (byte 1 t + l * 2 ^ 6) k ≡ accepted k
 given k x m l t ec em el ea =
     let (long, f, g) = access-two (k .access) ea in
-    let (sm, _) = pair-back (k .«mode_pair») m em in
-    let (sl, _) = pair-back (k .«limit_pair») l el in
+    let (sm, _) = pair-kept (k .«mode_pair») .1 m em in
+    let (sl, _) = pair-kept (k .«limit_pair») .1 l el in
     let y = byte 0 t + m * 2 ^ 6 in
     let z = byte 1 t + l * 2 ^ 6 in
     let pm : bits 6 2 y ≡ m = omega arith in
@@ -175,8 +175,8 @@ command-strict =
     let (m, l, t, em, el, ea, h) = parts-are k p ep in
     let (long, first, second) = access-two (k .access) ea in
     let sx = channel-small (k .channel) x ec in
-    let sm = pair-back (k .«mode_pair») m em .0 in
-    let sl = pair-back (k .«limit_pair») l el .0 in
+    let sm = pair-kept (k .«mode_pair») .1 m em .0 in
+    let sl = pair-kept (k .«limit_pair») .1 l el .0 in
     let z : _≡_ {A = List ℕ} (x ∷ (byte 0 t + m * 2 ^ 6) ∷ (byte 1 t + l * 2 ^ 6) ∷ []) s = cc in
     rw (← z) ((omega arith, (omega arith, (omega arith, tt))), refl {a = 3}, given k x m l t ec em el ea)
 
@@ -188,15 +188,9 @@ command-back k s e = command-iff s k (command-strict .bytes s k e) .1 e
 
 -- A command is refused by 9 alone.
 
-pair-only : (p : AccessPair) → Only 9 (pairField p)
-pair-only Leave = refl
-pair-only NonVolatile = refl
-pair-only Volatile = refl
-pair-only Reserved = refl
-
 pub parts-only : (k : SetChannelAccess) → Only 9 (partsBytes k)
 parts-only k =
-    only-steps 9 (pairField (k .«mode_pair»)) _ (pair-only (k .«mode_pair»)) λ m. only-steps 9 (pairField (k .«limit_pair»)) _ (pair-only (k .«limit_pair»)) λ l. only-steps 9 (accessBytes (k .access)) _ (access-only (k .access)) λ t. refl
+    only-steps 9 (pairField (k .«mode_pair»)) _ (pair-kept (k .«mode_pair») .0) λ m. only-steps 9 (pairField (k .«limit_pair»)) _ (pair-kept (k .«limit_pair») .0) λ l. only-steps 9 (accessBytes (k .access)) _ (access-only (k .access)) λ t. refl
 
 command-only : (k : SetChannelAccess) → Only 9 (commandBytes k)
 command-only k = begins-only (k .channel) (λ x. partsBytes k >>= λ p. accepted (x ∷ p)) λ x. only-steps 9 (partsBytes k) _ (parts-only k) λ p. refl

@@ -2,7 +2,7 @@ use borrow.Author.Needs.{needs}
 use mathlib.Core.Path.{sym, _∙_, ap}
 use Rattle.base.specs.Field.{saidField}
 use Rattle.base.specs.declared.refusal.Refusal.the-variants.{NoForm}
-use Rattle.access.proofs.get_channel_access.Laws.{mode-back, packed}
+use Rattle.access.proofs.get_channel_access.Laws.{mode-kept, packed}
 use Rattle.access.proofs.get_channel_access.ChannelAccess.write.Statement.{statement}
 use Rattle.access.proofs.get_channel_access.ChannelAccess.write.Tie as tie
 use Rattle.base.proofs.written.Laws.{refusing}
@@ -26,7 +26,7 @@ returns-3 c =
     let b = m .before .before in
     let a = b .before .before .args .self in
     let mode = m .mode .given .0 .0 in
-    let small = mode-back (a .«access_mode») mode (sym (b .field .ensures) ∙ ap saidField (m .mode .given .1)) .0 in
+    let small = mode-kept (a .«access_mode») .1 mode (sym (b .field .ensures) ∙ ap saidField (m .mode .given .1)) .0 in
     rw
     (← b .field .ensures, m .mode .given .1, ← l .before .before .field2 .ensures, l .limit .given .1, ← packed mode (a .«user_level_auth_disabled») (a .«per_msg_auth_disabled») (a .«alerting_disabled») small)
     (c .before .before .place .ensures)

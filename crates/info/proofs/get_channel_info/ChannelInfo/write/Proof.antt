@@ -5,7 +5,7 @@ use Rattle.base.specs.declared.refusal.Refusal.the-variants.{NoForm}
 use mathlib.Core.Path.{sym, _∙_, ap}
 use Rattle.base.specs.Field.{saidField}
 use Rattle.base.proofs.written.Laws.{refusing}
-use Rattle.media.proofs.get_channel_info.Laws.{session-back}
+use Rattle.media.proofs.get_channel_info.Laws.{session-kept}
 use Rattle.info.proofs.get_channel_info.ChannelInfo.write.Statement.{statement}
 use Rattle.info.proofs.get_channel_info.ChannelInfo.write.Tie as tie
 
@@ -32,10 +32,10 @@ returns-6 c =
     refusing NoForm (a .out .now) (rw (← c .before .before .before .before .before .before .before .before .before .before .before .before .before .before .before .before .before .field .ensures, c .before .before .before .before .before .before .before .before .before .before .before .before .before .before .before .channel .given .1, ← c .before .before .before .before .before .before .before .before .before .before .before .before .before .field2 .ensures, c .before .before .before .before .before .before .before .before .before .before .before .medium .given .1, ← c .before .before .before .before .before .before .before .before .before .field3 .ensures, c .before .before .before .before .before .before .before .protocol .given .1, ← c .before .before .before .before .before .field4 .ensures, c .before .before .before .session .given .1) (simp (le-ltb (a .self .«active_sessions») 0 (omega arith), le-ltb (a .self .«vendor_id») 0 (omega arith), le-ltb 0x3F (a .self .«active_sessions») (omega arith), lt-ltb 0xFFFFFF (a .self .«vendor_id») (omega arith))))
 
 mul-sessions : tie.Need-mul-sessions
-mul-sessions c = let small = session-back (c .before .before .before .before .before .before .before .before .before .before .before .before .before .before .before .before .before .before .before .before .args .self .«session_support») (c .before .before .before .before .session .given .0 .0) (sym (c .before .before .before .before .before .before .field4 .ensures) ∙ ap saidField (c .before .before .before .before .session .given .1)) .0 in omega arith
+mul-sessions c = let small = session-kept (c .before .before .before .before .before .before .before .before .before .before .before .before .before .before .before .before .before .before .before .before .args .self .«session_support») .1 (c .before .before .before .before .session .given .0 .0) (sym (c .before .before .before .before .before .before .field4 .ensures) ∙ ap saidField (c .before .before .before .before .session .given .1)) .0 in omega arith
 
 add-sessions : tie.Need-add-sessions
-add-sessions c = let small = session-back (c .before .before .before .before .before .before .before .before .before .before .before .before .before .before .before .before .before .before .before .before .args .self .«session_support») (c .before .before .before .before .session .given .0 .0) (sym (c .before .before .before .before .before .before .field4 .ensures) ∙ ap saidField (c .before .before .before .before .session .given .1)) .0 in omega arith
+add-sessions c = let small = session-kept (c .before .before .before .before .before .before .before .before .before .before .before .before .before .before .before .before .before .before .before .before .args .self .«session_support») .1 (c .before .before .before .before .session .given .0 .0) (sym (c .before .before .before .before .before .before .field4 .ensures) ∙ ap saidField (c .before .before .before .before .session .given .1)) .0 in omega arith
 
 returns-7 : tie.Need-returns-7
 returns-7 c =

@@ -2,7 +2,7 @@ use borrow.Author.Needs.{needs}
 use mathlib.Core.Path.{sym, _∙_, ap}
 use lib.ListN.{getD}
 use Rattle.base.specs.Field.{saidField}
-use Rattle.set_access.proofs.set_channel_access.Laws.{not-shown, pair-back, set-pair, shown}
+use Rattle.set_access.proofs.set_channel_access.Laws.{not-shown, pair-kept, set-pair, shown}
 use Rattle.access.proofs.get_channel_access.Laws.{access-two}
 use native.Mathlib.Omega.{arith}
 use Rattle.set_access.proofs.set_channel_access.SetChannelAccess.parts.Statement.{statement}
@@ -37,8 +37,8 @@ returns-4 c =
     let self = f .before .before .args .self in
     let e = shown (self .access) (rw (c .enum-told3 .given .1) at (w .write .ensures)) in
     let small = access-two (self .access) e in
-    let mode = pair-back (self .«mode_pair») (m .mode .given .0 .0) (sym (f .field .ensures) ∙ ap saidField (m .mode .given .1)) .0 in
-    let limit = pair-back (self .«limit_pair») (k .limit .given .0 .0) (sym (l .field2 .ensures) ∙ ap saidField (k .limit .given .1)) .0 in
+    let mode = pair-kept (self .«mode_pair») .1 (m .mode .given .0 .0) (sym (f .field .ensures) ∙ ap saidField (m .mode .given .1)) .0 in
+    let limit = pair-kept (self .«limit_pair») .1 (k .limit .given .0 .0) (sym (l .field2 .ensures) ∙ ap saidField (k .limit .given .1)) .0 in
     rw
     (← f .field .ensures, m .mode .given .1, ← l .field2 .ensures, k .limit .given .1, e, set-pair (m .mode .given .0 .0) (getD (w .write .last .1 .0) 0 0) mode (small .1), set-pair (k .limit .given .0 .0) (getD (w .write .last .1 .0) 1 0) limit (let low = small .2 in omega arith))
 
