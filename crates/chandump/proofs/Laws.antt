@@ -193,8 +193,11 @@ module _ {held : ℕ} {block out : List ℕ} {c : Collector} (part : List ℕ) (
       ap (λ (k : ℕ). take (k + n) after) (sym held-length) ∙ take-append-add (take held block) (part ++ b) n ∙ ap (λ (x : List ℕ). take held block ++ x) (take-append-le n part b (omega (arith, h, l))) in
       record { input = s .input ++ take n part; text = s .text; reached = rw e (read (s .reached) (take n part)) }
 
--- The first read.
+-- The first call and the first read.
 
-pub ready-first : {block out : List ℕ} {c : Collector} → c ≡ fresh → limit < length block → enough ≤ length out → Ready 0 block out c
+pub begun-put : {d after : List ℕ} {w : Written} → Writes (accepted heading) w d after → (n : ℕ) → w ≡ Length n → Reached [] (take n after) [] fresh
+begun-put v n e = rw (wrote-text v n e) begun
+
+pub ready-first : {block out text : List ℕ} {c : Collector} → c ≡ fresh → Reached [] text [] fresh → limit < length block → enough ≤ length out → Ready 0 block out c
 unfolding lineLength
-ready-first e m o = record { ran = record { input = []; text = heading; reached = rw e begun }; line = refl; small = omega arith; more = m; room = o }
+ready-first {text = text} e b m o = record { ran = record { input = []; text = text; reached = rw e b }; line = refl; small = omega arith; more = m; room = o }

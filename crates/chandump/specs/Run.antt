@@ -1,13 +1,15 @@
 -- What the program keeps: its calls are those of a run. That what it reads comes from `read`, and that what it puts goes to `write`, no contract can say.
 use Prim.Native.Nat.{ℕ, _+_, _≤_, _<_}
 use mathlib.Core.Bool.{true, false}
-use mathlib.Core.List.{List, _++_}
+use mathlib.Core.List.{List, [], _++_}
 use mathlib.Core.Path.{_≡_}
 use lib.ListN.{length, take, drop}
+use Rattle.collector.specs.Collector.{fresh}
 use Rattle.collector.specs.declared.Collector.{Collector}
 use Rattle.dump.specs.Input.{Line, outputOf}
 use Rattle.stream.specs.Stream.{Reached, enough, limit}
 use Rattle.chandump.specs.declared.Part.{Part}
+use Rattle.chandump.specs.declared.Sent.{Sent}
 use Rattle.chandump.specs.declared.Way.{Way}
 use Rattle.chandump.specs.declared.Got.{Got}
 use Rattle.chandump.specs.declared.Got.the-variants.{Bytes, Nothing, End, Fault}
@@ -18,6 +20,10 @@ Within (Bytes n) most = n ≤ most
 Within Nothing most = Unit {0}
 Within End most = Unit {0}
 Within Fault most = Unit {0}
+
+-- At the start: where it goes on, what is put first is what a run has written that has read nothing.
+abbrev pub Begun : Sent → List ℕ → Type 0
+Begun r out = 0 < r .calls → Reached [] (take (r .done) out) [] fresh
 
 -- a run comes to this, whatever it has read and written
 pub record Ran (rest : List ℕ) (c : Collector) : Type 0 where

@@ -8,7 +8,7 @@ ghost use Rattle.collector.specs.Collector.{fresh, held};
 ghost use Rattle.collector.specs.Histories.{Typed};
 ghost use Rattle.dump.specs.Input.{Line};
 ghost use Rattle.stream.specs.Stream.{enough, limit};
-ghost use Rattle.chandump.specs.Run.{Answered, Ended, Further, Ran, Ready, Whole, Within};
+ghost use Rattle.chandump.specs.Run.{Answered, Begun, Ended, Further, Ran, Ready, Whole, Within};
 use base::written::Written;
 use collector::Collector;
 use libc::EAGAIN;
@@ -275,14 +275,19 @@ fn once(
 }
 
 // The heading, before anything is read.
-fn begun(out: &mut [u8]) -> u64 {
+fn begun(out: &mut [u8]) -> Sent
+    ensures { λ r. ⌜ Begun r (now (out .exit)) ⌝ }
+{
     let Written::Length(put) = begin(out) else {
-        return 0;
+        return Sent { done: 0, calls: 0 };
     };
     if written(&out[0..put]) {
-        return CALLS;
+        return Sent {
+            done: put,
+            calls: CALLS,
+        };
     }
-    0
+    Sent { done: 0, calls: 0 }
 }
 
 fn run(
@@ -293,9 +298,10 @@ fn run(
 )
     requires { ⌜ (held (now bytes) (now marks) ≡ fresh) × ((limit < length (now block)) × (enough ≤ length (now out))) ⌝ }
 {
+    let first = begun(out);
     let mut turn = Turn {
         held: 0,
-        calls: begun(out),
+        calls: first.calls,
     };
     while 0 < turn.calls {
         turn = once(bytes, marks, turn, block, out);

@@ -9,10 +9,8 @@ use native.Mathlib.Numerals.{add-one}
 use lib.ListN.{length, getD, set, take, drop}
 use lib.Seq.{paste}
 use borrow.Author.Tests.{eq-eqb, ne-eqb, lt-ltb, le-ltb}
-use Rattle.base.specs.Outcome.{Outcome, accepted, refused}
+use Rattle.base.specs.Outcome.{accepted, refused}
 use Rattle.base.specs.Verdict.{Gives}
-use Rattle.base.specs.Written.{Writes}
-use Rattle.base.specs.declared.written.Written.{Written}
 use Rattle.base.specs.declared.refusal.Refusal.{Refusal}
 use Rattle.base.specs.declared.verdict.Verdict.the-variants.{Accepted, Refused}
 use Rattle.base.proofs.verdict.Laws.{giving, refusing}
@@ -186,12 +184,9 @@ module _ (c : Collector) where
       (λ (u : wellFormed c ≡ false). let q : _≡_ {A = ℕ} 0 1 = cc (e, standing-9 u) in absurd (omega arith))
       (bool-cases (wellFormed c))
 
-  -- the writer's part: the first bytes of the array, as the code cuts them out
-  pub listing : (n : ℕ) {r : Written} {before after : List ℕ} → standingOf c ≡ accepted (complete n) → Writes (accepted (take (n - 0) (drop 0 (c .bytes)))) r before after → Writes (listOf c) r before after
-  listing n {r} {before} {after} e w =
-      let z : n - 0 ≡ n = omega arith in
-      let f : listOf c ≡ accepted (take (n - 0) (c .bytes)) = rw (e, z) in
-      subst (λ (x : Outcome (List ℕ)). Writes x r before after) (sym f) w
+  -- the first bytes of the array, as the code cuts them out
+  pub told-list : (n : ℕ) → standingOf c ≡ accepted (complete n) → listOf c ≡ accepted (take (n - 0) (drop 0 (c .bytes)))
+  told-list n e = let z : n - 0 ≡ n = omega arith in rw (e, z)
 
   pub unlisted : (i : ℕ) → standingOf c ≡ accepted (missing i) → listOf c ≡ refused 13 (i ∷ [])
   unlisted i e = rw e

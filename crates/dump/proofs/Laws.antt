@@ -25,7 +25,7 @@ use Rattle.base.proofs.Outcome.{apart}
 use Rattle.base.proofs.written.Laws.{placed}
 use Rattle.collector.specs.Collector.{complete, fresh, listOf, missing, standingOf, taking}
 use Rattle.collector.specs.declared.Collector.{Collector}
-use Rattle.collector.proofs.Entries.{unformed, unlisted}
+use Rattle.collector.proofs.Entries.{told-list, unformed, unlisted}
 use Rattle.lines.specs.Lines.{pairsOf}
 use Rattle.lines.proofs.Laws.{bytes-at, decimal-fits}
 use Rattle.suites.specs.GetChannelCipherSuites.{numbersOf}
@@ -142,10 +142,7 @@ block-fits i n p q =
 
 module _ (c : Collector) {b a : List ℕ} where
   pub list-told : {w : Written} (n : ℕ) → standingOf c ≡ accepted (complete n) → Writes (accepted (suitesText (numbersOf (take (n - 0) (c .bytes))))) w b a → Says (listed (listOf c)) (record { kind = Suites; written = w }) b a
-  list-told n e w = let z : n - 0 ≡ n = omega arith in rw (unlist n e) (record { tells = refl; writes = rw z at w })
-    where
-      unlist : (n : ℕ) → standingOf c ≡ accepted (complete n) → listOf c ≡ accepted (take n (c .bytes))
-      unlist n e = rw e
+  list-told n e w = rw (told-list c n e) (record { tells = refl; writes = w })
 
   pub lacked : {w : Written} (i : ℕ) → standingOf c ≡ accepted (missing i) → Writes (accepted (missingText i)) w b a → Says (listed (listOf c)) (record { kind = Missing; written = w }) b a
   lacked i e w = rw (unlisted c i e) (record { tells = refl; writes = w })

@@ -22,7 +22,7 @@ loop-holds : tie.Need-loop-holds Inv-loop μ-loop
 loop-holds c =
     let u = c .before .before in
     let s = u .before .before .before .before in
-    (λ h. ready-first (s .pre .0) (s .pre .1 .0) (omega (arith, u .begun .kept .0, s .pre .1 .1)), (refl, refl))
+    (λ h. ready-first (s .pre .0) (u .begun .ensures h) (s .pre .1 .0) (omega (arith, u .begun .kept .0, s .pre .1 .1)), (refl, refl))
 
 once-requires : tie.Need-once-requires Inv-loop μ-loop
 once-requires c κs =

@@ -3,7 +3,7 @@ use mathlib.Core.Path.{sym, ap, _∙_}
 use Rattle.base.specs.declared.refusal.Refusal.the-variants.{Incomplete, NoForm}
 use Rattle.base.proofs.written.Laws.{refusing}
 use Rattle.collector.specs.Collector.{held, saidStatus}
-use Rattle.collector.proofs.Entries.{told-within, listing, unlisted, unformed}
+use Rattle.collector.proofs.Entries.{told-within, told-list, unlisted, unformed}
 use borrow.Author.Needs.{needs}
 use Rattle.collector.proofs.list_in.Statement.{statement}
 use Rattle.collector.proofs.list_in.Tie as tie
@@ -19,7 +19,7 @@ returns c =
     let p = c .before .before in
     let k = p .before .before .before .before .before in
     let a = k .before .before .before .before .args in
-    listing (held (a .bytes .now) (a .marks .now)) (k .status .given .0 .0) (sym (k .before .before .status-in .ensures) ∙ ap saidStatus (k .status .given .1)) (p .place .ensures)
+    rw (told-list (held (a .bytes .now) (a .marks .now)) (k .status .given .0 .0) (sym (k .before .before .status-in .ensures) ∙ ap saidStatus (k .status .given .1))) (p .place .ensures)
 
 returns-2 : tie.Need-returns-2
 returns-2 c =

@@ -1,15 +1,11 @@
 -- The suites of a collector.
-use Prim.Native.Nat.{ℕ, _-_}
-use mathlib.Core.List.{List, [], _∷_}
+use mathlib.Core.List.{List, []}
 use mathlib.Core.Logic.{_↔_}
-use mathlib.Core.Path.{_≡_, sym, ap, subst}
-use native.Mathlib.Omega.{arith}
-use lib.ListN.{take, drop}
+use mathlib.Core.Path.{_≡_, sym, ap}
+use Prim.Native.Nat.{ℕ}
 use Rattle.base.specs.Outcome.{Outcome, accepted, refused, _>>=_}
-use Rattle.base.specs.Written.{Writes}
-use Rattle.base.specs.declared.written.Written.{Written}
 use Rattle.base.proofs.Outcome.{apart}
-use Rattle.collector.specs.Collector.{complete, listOf, missing, standingOf}
+use Rattle.collector.specs.Collector.{listOf}
 use Rattle.collector.specs.Demand.{AllHeard, Call, Explains, IsList, controllers}
 use Rattle.collector.specs.Histories.{Reachable, Typed, after}
 use Rattle.collector.specs.declared.Collector.{Collector}
@@ -28,18 +24,3 @@ suites-refuse-9 c t = ((λ e. list-refuses-9 c t .0 (back (listOf c) e)), λ n. 
     back : (o : Outcome (List ℕ)) → (o >>= λ list. accepted (numbersOf list)) ≡ refused 9 [] → o ≡ refused 9 []
     back (accepted list) e = absurd (apart (sym e))
     back (refused n v) e = cc
-
--- By where it stands.
-module _ (c : Collector) where
-  -- the list as the code cuts it out of the array
-  pub listing : (n : ℕ) {r : Written} {before after : List ℕ} → standingOf c ≡ accepted (complete n) → Writes (accepted (numbersOf (take (n - 0) (drop 0 (c .bytes))))) r before after → Writes (suitesOf c) r before after
-  listing n {r} {before} {after} e w =
-      let z : n - 0 ≡ n = omega arith in
-      let f : suitesOf c ≡ accepted (numbersOf (take (n - 0) (c .bytes))) = rw (e, z) in
-      subst (λ (x : Outcome (List ℕ)). Writes x r before after) (sym f) w
-
-  pub unlisted : (i : ℕ) → standingOf c ≡ accepted (missing i) → suitesOf c ≡ refused 13 (i ∷ [])
-  unlisted i e = rw e
-
-  pub unformed : standingOf c ≡ refused 9 [] → suitesOf c ≡ refused 9 []
-  unformed e = rw e
