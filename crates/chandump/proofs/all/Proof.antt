@@ -51,9 +51,6 @@ loop-again c =
     let l = r .before .before .before .before .before .before in
     (stands-next (l .loop .inv .0) (r .some .ensures) (c .further .ensures), search needs)
 
-same-length : tie.Need-same-length Inv-loop μ-loop
-same-length c = search needs
-
 returns : tie.Need-returns Inv-loop μ-loop
 returns c = let s = c .before .loop .inv .0 in (λ k. stands-last s (c .loop-test .left) k, s .most)
 
@@ -71,5 +68,5 @@ all-spec =
     further-requires
     loop-less
     loop-again
-    same-length
+    (search needs)
     returns)

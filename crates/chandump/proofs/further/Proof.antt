@@ -12,9 +12,6 @@ returns c =
     further-none (a .at) (a .part) (c .if1 .taken)
 
 -- src/main.rt:166:13
-add-t4 : tie.Need-add-t4
-add-t4 c = search needs
-
 -- src/main.rt:154:1
 returns-2 : tie.Need-returns-2
 returns-2 c =
@@ -23,4 +20,4 @@ returns-2 c =
     further-some (a .at) (a .part) (i .if1 .left)
 
 pub further-spec : {M : Type 1} → statement M
-further-spec = tie.close (tie.spec returns add-t4 returns-2)
+further-spec = tie.close (tie.spec returns (search needs) returns-2)

@@ -4,24 +4,6 @@ use Rattle.chandump.proofs.Laws.{read-end, read-length, read-none, read
 use Rattle.chandump.proofs.once.Statement.{statement}
 use Rattle.chandump.proofs.once.Tie as tie
 
-sub-calls : tie.Need-sub-calls
-sub-calls c = search needs
-
-sub-receive : tie.Need-sub-receive
-sub-receive c = search needs
-
-part-receive-start : tie.Need-part-receive-start
-part-receive-start c = search needs
-
-part-receive-end : tie.Need-part-receive-end
-part-receive-end c = search needs
-
-receive-requires : tie.Need-receive-requires
-receive-requires c κs = search needs
-
-enum-known-got : tie.Need-enum-known-got
-enum-known-got c = search needs
-
 add-answer : tie.Need-add-answer
 add-answer c =
     let g = c .before .before .before .before in
@@ -41,21 +23,6 @@ answer-requires c κs =
     let l = read-length (r .receive .last .0) (s .pre .0) (r .receive .kept .0) in
     (read-some (r .receive .last .0) (s .pre .0) (r .receive .kept .0) n w, (omega (arith, l, read-within (r .receive .last .0) (s .pre .0) (r .receive .kept .0) n w), (omega (arith, l, s .pre .0 .more), s .pre .0 .room)))
 
-enum-told : tie.Need-enum-told
-enum-told c = search needs
-
-enum-told-2 : tie.Need-enum-told-2
-enum-told-2 c = search needs
-
-sub-last : tie.Need-sub-last
-sub-last c = search needs
-
-part-last-start : tie.Need-part-last-start
-part-last-start c = search needs
-
-part-last-end : tie.Need-part-last-end
-part-last-end c = search needs
-
 last-requires : tie.Need-last-requires
 last-requires c κs =
     let r = c .before .before .before .before .before .before .before .before .before in
@@ -63,38 +30,14 @@ last-requires c κs =
     let e = read-end (r .receive .last .0) (s .pre .0) (r .receive .kept .0) in
     (e .0, (e .1, s .pre .0 .room))
 
-enum-told-3 : tie.Need-enum-told-3
-enum-told-3 c = search needs
-
-same-length : tie.Need-same-length
-same-length c = search needs
-
-same-length-2 : tie.Need-same-length-2
-same-length-2 c = search needs
-
-returns : tie.Need-returns
-returns c = search needs
-
-same-length-3 : tie.Need-same-length-3
-same-length-3 c = search needs
-
 returns-2 : tie.Need-returns-2
 returns-2 c =
     let r = c .before .before .before .before in
     let s = r .before .before .before .before .before in
     (λ h. read-none (r .receive .last .0) (s .pre .0) (r .receive .kept .0), omega (arith, s .pre .1))
 
-same-length-4 : tie.Need-same-length-4
-same-length-4 c = search needs
-
-same-length-5 : tie.Need-same-length-5
-same-length-5 c = search needs
-
 returns-3 : tie.Need-returns-3
 returns-3 c = (λ h. absurd (omega arith), c .before .before .before .before .before .before .before .before .before .before .before .before .before .before .before .before .before .pre .1)
-
-same-length-6 : tie.Need-same-length-6
-same-length-6 c = search needs
 
 returns-4 : tie.Need-returns-4
 returns-4 c = (λ h. absurd (omega arith), c .before .before .before .before .before .before .before .before .before .pre .1)
@@ -103,28 +46,28 @@ pub once-spec : {M : Type 1} → statement M
 once-spec =
     tie.close
     (tie.spec
-    sub-calls
-    sub-receive
-    part-receive-start
-    part-receive-end
-    receive-requires
-    enum-known-got
+    (search needs)
+    (search needs)
+    (search needs)
+    (search needs)
+    (λ c κs. search needs)
+    (search needs)
     add-answer
     answer-requires
-    enum-told
-    enum-told-2
-    sub-last
-    part-last-start
-    part-last-end
+    (search needs)
+    (search needs)
+    (search needs)
+    (search needs)
+    (search needs)
     last-requires
-    enum-told-3
-    same-length
-    same-length-2
-    returns
-    same-length-3
+    (search needs)
+    (search needs)
+    (search needs)
+    (λ c. search needs)
+    (search needs)
     returns-2
-    same-length-4
-    same-length-5
+    (search needs)
+    (search needs)
     returns-3
-    same-length-6
+    (search needs)
     returns-4)

@@ -15,9 +15,6 @@ Inv-loop bytes₀ marks₀ block₀ out₀ turn₀ bytes marks block out turn = 
 abbrev μ-loop : tie.MeasureT-loop
 μ-loop bytes₀ marks₀ block₀ out₀ turn₀ bytes marks block out turn = turn .calls
 
-begun-requires : tie.Need-begun-requires Inv-loop μ-loop
-begun-requires c κs = search needs
-
 loop-holds : tie.Need-loop-holds Inv-loop μ-loop
 loop-holds c =
     let u = c .before .before in
@@ -29,23 +26,11 @@ once-requires c κs =
     let i = c .before .before .before .before in
     (i .before .before .loop .inv .0 (i .if1 .taken), i .if1 .taken)
 
-loop-less : tie.Need-loop-less Inv-loop μ-loop
-loop-less c = search needs
-
 loop-again : tie.Need-loop-again Inv-loop μ-loop
 loop-again c =
     let o = c .before .before .before .before in
     let l = o .before .before .before .before .before .before .before in
     (o .once .ensures .0, (omega (arith, o .once .kept .1 .1 .1 .0, l .loop .inv .1 .0), omega (arith, o .once .kept .1 .1 .1 .1 .0, l .loop .inv .1 .1)))
-
-same-length : tie.Need-same-length Inv-loop μ-loop
-same-length c = search needs
-
-same-length-2 : tie.Need-same-length-2 Inv-loop μ-loop
-same-length-2 c = search needs
-
-returns : tie.Need-returns Inv-loop μ-loop
-returns c = search needs
 
 pub run-spec : {M : Type 1} → statement M
 run-spec =
@@ -53,11 +38,11 @@ run-spec =
     (tie.spec
     Inv-loop
     μ-loop
-    begun-requires
+    (λ c κs. search needs)
     loop-holds
     once-requires
-    loop-less
+    (search needs)
     loop-again
-    same-length
-    same-length-2
-    returns)
+    (search needs)
+    (search needs)
+    (λ c. search needs))

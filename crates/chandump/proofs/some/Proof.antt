@@ -9,21 +9,9 @@ use Rattle.chandump.proofs.written.Reads as written-reads
 use Rattle.stream.proofs.feed.Reads as feed-reads
 
 -- src/main.rt:136:5
-known-requires : tie.Need-known-requires
-known-requires c κs = search needs
-
 -- src/main.rt:137:9
-feed-requires : tie.Need-feed-requires
-feed-requires c κs = search needs
-
 -- src/main.rt:139:22
-sub-written : tie.Need-sub-written
-sub-written c = search needs
-
 -- src/main.rt:139:22
-part-written-start : tie.Need-part-written-start
-part-written-start c = search needs
-
 -- src/main.rt:139:22
 part-written-end : tie.Need-part-written-end
 part-written-end c =
@@ -33,13 +21,7 @@ part-written-end c =
     search needs
 
 -- src/main.rt:139:9
-written-requires : tie.Need-written-requires
-written-requires c κs = search needs
-
 -- src/main.rt:127:1
-same-length : tie.Need-same-length
-same-length c = search needs
-
 -- src/main.rt:127:1
 returns : tie.Need-returns
 returns c =
@@ -53,11 +35,11 @@ pub some-spec : {M : Type 1} → statement M
 some-spec =
     tie.close
     (tie.spec
-    known-requires
-    feed-requires
-    sub-written
-    part-written-start
+    (λ c κs. search needs)
+    (λ c κs. search needs)
+    (search needs)
+    (search needs)
     part-written-end
-    written-requires
-    same-length
+    (λ c κs. search needs)
+    (search needs)
     returns)

@@ -14,28 +14,10 @@ Inv-loop block₀ at end most n i₀ block i = ((i ≤ n) × (n ≡ min most (mi
 abbrev μ-loop : tie.MeasureT-loop
 μ-loop block₀ at end most n i₀ block i = n - i
 
-span-requires : tie.Need-span-requires Inv-loop μ-loop
-span-requires c κs = search needs
-
 loop-holds : tie.Need-loop-holds Inv-loop μ-loop
 loop-holds c =
     let a = c .before .before .args in
     ((omega arith, c .span .ensures), (refl, paste-zero (a .block .now) 0 (drop (a .at) (a .block .now))))
-
-add-byte : tie.Need-add-byte Inv-loop μ-loop
-add-byte c = search needs
-
-slice-read-byte : tie.Need-slice-read-byte Inv-loop μ-loop
-slice-read-byte c = search needs
-
-slice-write-block : tie.Need-slice-write-block Inv-loop μ-loop
-slice-write-block c = search needs
-
-add-i : tie.Need-add-i Inv-loop μ-loop
-add-i c = search needs
-
-loop-less : tie.Need-loop-less Inv-loop μ-loop
-loop-less c = search needs
 
 loop-again : tie.Need-loop-again Inv-loop μ-loop
 loop-again c =
@@ -44,9 +26,6 @@ loop-again c =
     let v = l .loop .inv in
     let h : l .loop .i < length (a .block .now) - a .at = omega (arith, v .0 .1) in
     ((omega arith, v .0 .1), (simp length-set (v .1 .0), moved (a .block .now) (l .loop .block) (a .at) (l .loop .i) (v .1 .1) (omega arith)))
-
-same-length : tie.Need-same-length Inv-loop μ-loop
-same-length c = search needs
 
 returns : tie.Need-returns Inv-loop μ-loop
 returns c =
@@ -61,13 +40,13 @@ kept-spec =
     (tie.spec
     Inv-loop
     μ-loop
-    span-requires
+    (λ c κs. search needs)
     loop-holds
-    add-byte
-    slice-read-byte
-    slice-write-block
-    add-i
-    loop-less
+    (search needs)
+    (search needs)
+    (search needs)
+    (search needs)
+    (search needs)
     loop-again
-    same-length
+    (search needs)
     returns)

@@ -3,15 +3,6 @@ use Rattle.lines.proofs.Laws.{spanned}
 use Rattle.lines.proofs.span.Statement.{statement}
 use Rattle.lines.proofs.span.Tie as tie
 
-least-requires : tie.Need-least-requires
-least-requires c κs = search needs
-
-returns : tie.Need-returns
-returns c = search needs
-
-least-requires-2 : tie.Need-least-requires-2
-least-requires-2 c κs = search needs
-
 returns-2 : tie.Need-returns-2
 returns-2 c =
     let i = c .before in
@@ -20,4 +11,4 @@ returns-2 c =
     spanned (a .«length») (a .at) (a .end) (a .most) (l .least .result) (c .least2 .result) (l .least .ensures) (i .if1 .left) (c .least2 .ensures)
 
 pub span-spec : {M : Type 1} → statement M
-span-spec = tie.close (tie.spec least-requires returns least-requires-2 returns-2)
+span-spec = tie.close (tie.spec (λ c κs. search needs) (λ c. search needs) (λ c κs. search needs) returns-2)

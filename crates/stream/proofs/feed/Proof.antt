@@ -40,9 +40,6 @@ part-step-start-2 c = let w = went-within (c .before .before .before .before .lo
 part-step-end-2 : tie.Need-part-step-end-2 Inv-loop μ-loop
 part-step-end-2 c = let w = went-within (c .before .before .before .before .loop .inv) .0 in search needs
 
-step-requires : tie.Need-step-requires Inv-loop μ-loop
-step-requires c κs = search needs
-
 add-t13 : tie.Need-add-t13 Inv-loop μ-loop
 add-t13 c =
     let r = c .before .before .before in
@@ -96,7 +93,7 @@ feed-spec =
     sub-step-2
     part-step-start-2
     part-step-end-2
-    step-requires
+    (λ c κs. search needs)
     add-t13
     add-t17
     loop-less

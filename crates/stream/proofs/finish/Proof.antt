@@ -9,16 +9,10 @@ returns c =
     let a = c .before .before .before .args in
     finish-none (held (a .bytes .now) (a .marks .now)) (a .rest .now) (a .out .now) (c .if1 .taken)
 
-reply-requires : tie.Need-reply-requires
-reply-requires c κs = search needs
-
-same-length : tie.Need-same-length
-same-length c = search needs
-
 returns-2 : tie.Need-returns-2
 returns-2 c =
     let i = c .before .before .before .before .before .before in
     finish-some (i .before .before .before .args .rest .now) (i .if1 .left) (c .before .before .reply .ensures)
 
 pub finish-spec : {M : Type 1} → statement M
-finish-spec = tie.close (tie.spec returns reply-requires same-length returns-2)
+finish-spec = tie.close (tie.spec returns (λ c κs. search needs) (search needs) returns-2)

@@ -12,30 +12,6 @@ returns c =
     let a = c .before .before .before .args in
     replied-none (held (a .bytes .now) (a .marks .now)) (a .line .now) (a .out .now) (c .if1 .taken)
 
-sub-room : tie.Need-sub-room
-sub-room c = search needs
-
-sub-dump : tie.Need-sub-dump
-sub-dump c = search needs
-
-part-dump-start : tie.Need-part-dump-start
-part-dump-start c = search needs
-
-part-dump-end : tie.Need-part-dump-end
-part-dump-end c = search needs
-
-dump-requires : tie.Need-dump-requires
-dump-requires c κs = search needs
-
-enum-known-written : tie.Need-enum-known-written
-enum-known-written c = search needs
-
-enum-told : tie.Need-enum-told
-enum-told c = search needs
-
-same-length : tie.Need-same-length
-same-length c = search needs
-
 returns-2 : tie.Need-returns-2
 returns-2 c =
     let d = c .before .before .before .before in
@@ -64,9 +40,6 @@ add-t9 c =
     let w = replied-within (held (a .bytes .now) (a .marks .now)) (a .line .now) (a .out .now) (l .1 .1 .1 .0) (held (l .0) (l .1 .0)) (d .dump .result) h (d .dump .ensures) (c .before .written .given .0 .0) (c .before .written .given .1) .1 in
     search needs
 
-same-length-2 : tie.Need-same-length-2
-same-length-2 c = search needs
-
 returns-3 : tie.Need-returns-3
 returns-3 c =
     let d = c .before .before .before .before .before in
@@ -81,16 +54,16 @@ reply-spec =
     tie.close
     (tie.spec
     returns
-    sub-room
-    sub-dump
-    part-dump-start
-    part-dump-end
-    dump-requires
-    enum-known-written
-    enum-told
-    same-length
+    (search needs)
+    (search needs)
+    (search needs)
+    (search needs)
+    (λ c κs. search needs)
+    (search needs)
+    (search needs)
+    (search needs)
     returns-2
     slice-write-out
     add-t9
-    same-length-2
+    (λ c. search needs)
     returns-3)
