@@ -102,7 +102,7 @@ def functions(text):
 def module_of(file):
     """What stands before the names of a source's functions."""
     name = os.path.basename(file)[:-len(".rt")]
-    return "" if name == "lib" else name + "."
+    return "" if name in ("lib", "main") else name + "."
 
 
 def function_at(folder, file, line):

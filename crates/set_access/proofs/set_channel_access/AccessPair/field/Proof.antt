@@ -18,8 +18,11 @@ named NonVolatile t = refl
 named Volatile t = refl
 named Reserved t = absurd (miss (0 ∷ 1 ∷ 2 ∷ []) 3 tt t)
 
+returns : tie.Need-returns
+returns c = search needs
+
 returns-2 : tie.Need-returns-2
 returns-2 c = rw (c .value .ensures) (named (c .before .before .args .self) (c .before .match .keys2))
 
 pub field-spec : {M : Type 1} → statement M
-field-spec = tie.close (tie.spec (search needs) (search needs) (λ c. search needs) returns-2)
+field-spec = tie.close (tie.spec (search needs) (search needs) returns returns-2)
