@@ -51,16 +51,6 @@ lowest-at ms (suc n) h =
     (eq-or-ne (getD ms n 0) 0))
     (lt-or-le (lowest ms n) n)
 
--- the least: any unheard index is not below it
-pub lowest-is : (ms : List ℕ) (n k : ℕ) → k ≤ n → ((i : ℕ) → i < k → getD ms i 0 ≡ 0 → ⊥) → (k < n → getD ms k 0 ≡ 0) → lowest ms n ≡ k
-lowest-is ms n k kn below at =
-    ⊎-elim (λ (l : lowest ms n < k). absurd (below (lowest ms n) l (lowest-at ms n (omega arith))))
-    (λ (g : k ≤ lowest ms n).
-    ⊎-elim (λ (e : lowest ms n ≡ k). e)
-    (λ (ne : lowest ms n ≡ k → ⊥). let q : lowest ms n ≤ n = lowest-le ms n in absurd (lowest-below ms n k (omega arith) (at (omega arith))))
-    (eq-or-ne (lowest ms n) k))
-    (lt-or-le (lowest ms n) k)
-
 -- complete
 
 either-cases : (a b : Bool) → (a or b) ≡ true → (a ≡ true) ⊎ (b ≡ true)
