@@ -5,10 +5,9 @@ ghost use lib.ListN.{length};
 use crate::question::answer;
 use base::little::bytes8;
 use base::text::digit;
-use base::written::Written;
-use base::written::place;
 use libc::STDIN_FILENO;
 use libc::STDOUT_FILENO;
+use lines::kept;
 use lines::newline_from;
 
 mod arguments;
@@ -24,6 +23,10 @@ const LENT: usize = 2048;
 
 // What lent bytes are before a call.
 const FILL: u8 = 0xEE;
+
+// So much of a line is answered, and kept of one that is not ended: 4,096 bytes are no hex pairs, so what is longer is no
+// question, whatever is left out of it.
+const LINE: usize = 4096;
 
 // The lent bytes as text, and the newline.
 const TEXT: usize = 3 * LENT + 1;
@@ -61,40 +64,21 @@ fn shown(number: u64, lent: &[u8], room: usize) {
     }
 }
 
-// The line is the first `used` bytes. None of it is held any more.
-fn answered(line: &[u8], used: usize) -> usize {
-    let mut lent = [FILL; LENT];
-    if used <= line.len() {
-        let said = answer(&line[0..used], &mut lent);
-        shown(said.number, &lent, said.room);
-    }
-    0
-}
-
-// What a block has of a line goes behind what is held of it. A line that fills all of `line` is too long for a question,
-// whatever is left out of it: 4,096 bytes are no hex pairs.
-fn held(part: &[u8], used: usize, line: &mut [u8]) -> usize {
-    if used <= line.len() {
-        let room = line.len() - used;
-        let Written::Length(n) = place(part, &mut line[used..]) else {
-            return line.len();
-        };
-        if n <= room {
-            return used + n;
-        }
+// How much of a line is answered.
+fn most(line: &[u8]) -> usize
+    ensures { λ r. ⌜ r ≤ length (now (line .entry)) ⌝ }
+{
+    if LINE < line.len() {
+        return LINE;
     }
     line.len()
 }
 
-fn line_at(block: &[u8], at: usize, end: usize, before: usize, line: &mut [u8]) -> usize
-    requires { ⌜ at ≤ end ⌝ }
-    requires { ⌜ end ≤ length (now block) ⌝ }
-{
-    let used = held(&block[at..end], before, line);
-    if end < block.len() {
-        return answered(line, used);
-    }
-    used
+fn answered(line: &[u8]) {
+    let mut lent = [FILL; LENT];
+    let end = most(line);
+    let said = answer(&line[0..end], &mut lent);
+    shown(said.number, &lent, said.room);
 }
 
 // Where the next line ends.
@@ -105,16 +89,37 @@ fn end_of(block: &[u8], at: usize) -> usize
     newline_from(block, at)
 }
 
-// How much of a line is held behind the block.
-fn fed(block: &[u8], before: usize, line: &mut [u8]) -> usize {
-    let mut used = before;
+// The lines of a block that are ended there are answered where they lie. Where its rest begins.
+fn fed(block: &[u8]) -> usize {
     let mut at: usize = 0;
-    while at < block.len() {
-        let end = end_of(block, at);
-        used = line_at(block, at, end, used, line);
+    let mut end = end_of(block, 0);
+    while end < block.len() {
+        answered(&block[at..end]);
         at = end + 1;
+        end = end_of(block, at);
     }
-    used
+    at
+}
+
+// What is read stands behind what is held of a line.
+fn read(block: &mut [u8], used: usize) -> usize {
+    if block.len() < used {
+        return 0;
+    }
+    io::read_full(STDIN_FILENO, &mut block[used..])
+}
+
+// Lines are answered as far as was read, and what is left is kept at the start of the block: how much that is.
+fn taken(block: &mut [u8], used: usize, n: usize) -> usize {
+    if block.len() < used {
+        return 0;
+    }
+    if block.len() - used < n {
+        return 0;
+    }
+    let end = used + n;
+    let at = fed(&block[0..end]);
+    kept(block, at, end, LINE)
 }
 
 // The budget after a block of `n` bytes: less by one, or none where the input has ended.
@@ -130,23 +135,29 @@ fn left(budget: u64, n: usize) -> u64
 
 // A proved loop has to end, and nothing says that the input does: the loop counts its blocks down from a number that
 // no run uses up.
-fn run(block: &mut [u8], line: &mut [u8]) -> usize {
+fn run(block: &mut [u8]) -> usize {
     let mut used: usize = 0;
     let mut budget: u64 = 0x0100_0000_0000;
     while budget > 0 {
-        let n = io::read_full(STDIN_FILENO, block);
-        used = fed(&block[0..n], used, line);
+        let n = read(block, used);
+        used = taken(block, used, n);
         budget = left(budget, n);
     }
     used
 }
 
+// A last line that no newline ends.
+fn last(block: &[u8], used: usize) {
+    if used == 0 {
+        return;
+    }
+    if used <= block.len() {
+        answered(&block[0..used]);
+    }
+}
+
 fn main() {
     let mut block = io::large_buffer();
-    let mut line = io::buffer();
-    let used = run(&mut block, &mut line);
-    // A last line that no newline ends.
-    if 0 < used {
-        answered(&line, used);
-    }
+    let used = run(&mut block);
+    last(&block, used);
 }

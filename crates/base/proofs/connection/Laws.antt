@@ -34,7 +34,7 @@ made n c e = go (eqb n 0) (eqb n 0xE) (eqb n 0xF) refl refl refl e
         let w = ranged n 1 0xB (record { 0 = n }) 6 f in
         cc (inside n 1 0xB n 9 (w .0) (w .1))
 
--- four bits
+-- a channel is written in four bits, which make it again
 channel-kept : (c : Channel) → Kept channelOf 16 (accepted c) (channelField c)
 channel-kept Primary = one channelOf 16 0 (lit< tt) refl
 channel-kept (Numbered k) =

@@ -5,10 +5,10 @@ use Rattle.replay.proofs.run.Statement.{statement}
 use Rattle.replay.proofs.run.Tie as tie
 
 abbrev Inv-loop : tie.InvT-loop
-Inv-loop block₀ line₀ used₀ budget₀ block line used budget = (length block ≡ length block₀) × (length line ≡ length line₀)
+Inv-loop block₀ used₀ budget₀ block used budget = length block ≡ length block₀
 
 abbrev μ-loop : tie.MeasureT-loop
-μ-loop block₀ line₀ used₀ budget₀ block line used budget = budget
+μ-loop block₀ used₀ budget₀ block used budget = budget
 
 pub run-spec : {M : Type 1} → statement M
 run-spec =
@@ -16,10 +16,6 @@ run-spec =
     (tie.spec
     Inv-loop
     μ-loop
-    (λ c. search needs)
-    (λ c. search needs)
-    (λ c. search needs)
-    (λ c. search needs)
     (λ c. search needs)
     (λ c. search needs)
     (λ c. search needs)
