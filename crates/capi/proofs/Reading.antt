@@ -18,10 +18,12 @@ use Rattle.base.specs.declared.refusal.Refusal.{Refusal}
 use Rattle.base.specs.declared.refusal.Refusal.the-variants.{NotEnoughData, TooMuchData, InvalidZeroSession, InvalidAuthType, InvalidPrivilegeLevel, NoChannel, BadIndex, LongName, NoForm, NotARequest, NoRoom, Disagrees, Incomplete, BadLine, BadRecord}
 use Rattle.base.proofs.Outcome.{apart}
 use Rattle.base.proofs.refusal.Laws.{named, named-row}
-use Rattle.collector.specs.Collector.{Standing, complete, missing, isComplete, leastTo, lowest, standingOf, wellFormed}
+use Rattle.collector.specs.Collector.{Standing, complete, missing, isComplete, leastTo, lowest}
+use Rattle.collector.specs.Stored.{partsOf, standingStored, wellStored}
 use Rattle.collector.specs.declared.Collector.{Collector}
 use Rattle.collector.proofs.Complete.{lowest-le}
-use Rattle.collector.proofs.Entries.{standing-9, standing-complete, standing-missing, told-within}
+use Rattle.collector.proofs.Entries.{standing-complete, standing-missing}
+use Rattle.collector.proofs.Stored.{parts-formed, told, told-within, untold}
 use Rattle.capi.specs.Number.{atMost, carriedIn, carriedLimit, code, codeAny, isMissing, isNone, isRefused, missingBit, missingIn, orNone, refusalIn, refusedBit, standing}
 
 unlike : false ≡ true → ⊥
@@ -139,13 +141,13 @@ missing-back i h =
     rw (a, b, c)
 
 -- which is where it stands: 9, complete with the list's length, or the lowest unheard index. This holds of every collector.
-pub status-read : (c : Collector) → standingIn (code (standing (standingOf c))) ≡ standingOf c
-status-read c = go (wellFormed c) (isComplete c) refl refl
+pub status-read : (c : Collector) → standingIn (code (standing (standingStored c))) ≡ standingStored c
+status-read c = go (wellStored c) (isComplete (partsOf c)) refl refl
   where
     at : {x y : Outcome Standing} → x ≡ y → standingIn (code (standing y)) ≡ y → standingIn (code (standing x)) ≡ x
     at e f = rw e f
 
-    go : (w x : Bool) → wellFormed c ≡ w → isComplete c ≡ x → standingIn (code (standing (standingOf c))) ≡ standingOf c
-    go false x p q = at (standing-9 c p) refl
-    go true true p q = let e = standing-complete c p q in at e (complete-back (leastTo (c .marks) 64) (told-within c (leastTo (c .marks) 64) e))
-    go true false p q = at (standing-missing c p q) (missing-back (lowest (c .marks) 64) (lowest-le (c .marks) 64))
+    go : (w x : Bool) → wellStored c ≡ w → isComplete (partsOf c) ≡ x → standingIn (code (standing (standingStored c))) ≡ standingStored c
+    go false x p q = at (untold c p) refl
+    go true true p q = let e = told c p ∙ standing-complete (partsOf c) (parts-formed c p) q in at e (complete-back (leastTo (c .marks) 64) (told-within c (leastTo (c .marks) 64) e))
+    go true false p q = at (told c p ∙ standing-missing (partsOf c) (parts-formed c p) q) (missing-back (lowest (c .marks) 64) (lowest-le (c .marks) 64))

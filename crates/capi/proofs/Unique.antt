@@ -8,7 +8,7 @@ use Rattle.base.proofs.Walked.{UniqueWalk, facts}
 use Rattle.base.specs.Outcome.{Outcome}
 use Rattle.capi.specs.Number.{Codes, CodesAny, Takes}
 use Rattle.capi.specs.Table.{Steps}
-use Rattle.collector.specs.Collector.{held}
+use Rattle.collector.specs.Stored.{collectorOf}
 use Rattle.collector.specs.declared.Collector.{Collector}
 use Rattle.suites.specs.declared.get_channel_cipher_suites.Step.{Step}
 use Rattle.capi.proofs as p
@@ -18,11 +18,11 @@ pub coder : (k : ℕ) {message : Outcome (List ℕ)} {n n′ : ℕ} {before afte
     → (n ≡ n′) × (last k after ≡ last k after′)
 coder k q q′ = (both (q .answers) (q′ .answers), ap (last k) (both (q .leaves) (q′ .leaves)))
 
--- a collector that takes an answer: its two arrays come first
-pub taker : {taken : Outcome Collector} {n n′ : ℕ} {before : Collector} {bytes marks bytes′ marks′ : List ℕ}
-    → Takes taken n before (held bytes marks) → Takes taken n′ before (held bytes′ marks′)
-    → (n ≡ n′) × (_≡_ {A = List ℕ × (List ℕ × (Unit {0} × (Unit {0} × Unit {0})))} (bytes, (marks, (tt, (tt, tt)))) (bytes′, (marks′, (tt, (tt, tt)))))
-taker q q′ = (both (q .answers) (q′ .answers), ap (λ (c : Collector). (c .bytes, (c .marks, (tt, (tt, tt))))) (both (q .leaves) (q′ .leaves)))
+-- a collector that takes an answer: its three arrays come first
+pub taker : {taken : Outcome Collector} {n n′ : ℕ} {before : Collector} {bytes marks known bytes′ marks′ known′ : List ℕ}
+    → Takes taken n before (collectorOf bytes marks known) → Takes taken n′ before (collectorOf bytes′ marks′ known′)
+    → (n ≡ n′) × (_≡_ {A = List ℕ × (List ℕ × (List ℕ × (Unit {0} × (Unit {0} × Unit {0}))))} (bytes, (marks, (known, (tt, (tt, tt))))) (bytes′, (marks′, (known′, (tt, (tt, tt))))))
+taker q q′ = (both (q .answers) (q′ .answers), ap (λ (c : Collector). (c .bytes, (c .marks, (c .known, (tt, (tt, tt)))))) (both (q .leaves) (q′ .leaves)))
 
 pub ghj-suite-numbers-unique : Unique p.list.ghj_suite_numbers.Kinds.ps p.list.ghj_suite_numbers.Kinds.r p.list.ghj_suite_numbers.Reads.Asked p.list.ghj_suite_numbers.Reads.Learnt
 ghj-suite-numbers-unique κs a ok z z′ w w′ q q′ = coder 1 q q′
@@ -34,10 +34,10 @@ pub ghj-collector-status-unique : Unique p.collecting.ghj_collector_status.Kinds
 ghj-collector-status-unique κs a ok z z′ w w′ q q′ = (both q q′, refl)
 
 pub ghj-collector-list-unique : Unique p.collecting.ghj_collector_list.Kinds.ps p.collecting.ghj_collector_list.Kinds.r p.collecting.ghj_collector_list.Reads.Asked p.collecting.ghj_collector_list.Reads.Learnt
-ghj-collector-list-unique κs a ok z z′ w w′ q q′ = coder 2 q q′
+ghj-collector-list-unique κs a ok z z′ w w′ q q′ = coder 3 q q′
 
 pub ghj-collector-suites-unique : Unique p.collecting.ghj_collector_suites.Kinds.ps p.collecting.ghj_collector_suites.Kinds.r p.collecting.ghj_collector_suites.Reads.Asked p.collecting.ghj_collector_suites.Reads.Learnt
-ghj-collector-suites-unique κs a ok z z′ w w′ q q′ = coder 2 q q′
+ghj-collector-suites-unique κs a ok z z′ w w′ q q′ = coder 3 q q′
 
 pub ghj-collector-take-unique : UniqueWalk p.collecting.ghj_collector_take.ended (λ M 𝓤 H A mem run. p.collecting.ghj_collector_take.clauses 𝓤 H A mem run)
 ghj-collector-take-unique M 𝓤 H A mem run κs a g z z′ w w′ = facts 𝓤 (λ q q′. (both (q .answers) (q′ .answers), ap (λ x. (x, (tt, (tt, tt)))) (both (q .leaves) (q′ .leaves))))

@@ -15,11 +15,11 @@ use Rattle.base.specs.declared.refusal.Refusal.{Refusal}
 use Rattle.base.specs.declared.written.Written.{Written}
 use Rattle.base.specs.declared.written.Written.the-variants.{Length, Refused}
 use Rattle.base.proofs.written.Laws.{placed}
-use Rattle.collector.specs.Collector.{fresh}
+use Rattle.collector.specs.Stored.{freshStored, partsOf}
 use Rattle.collector.specs.Histories.{Typed}
 use Rattle.collector.specs.declared.Collector.{Collector}
 use Rattle.lines.specs.Lines.{Keeps, between, lineLength}
-use Rattle.dump.specs.Input.{Line, answersFrom, collectorFrom, heading, joined, lastLine}
+use Rattle.dump.specs.Input.{Line, answersFrom, heading, joined, lastLine}
 use Rattle.dump.proofs.Laws.{as-long, had-room, never}
 use Rattle.stream.specs.Stream.{Feeds, Reached, begun, read, fed, kept, Replies, endedLines, enough, fitting, limit}
 use Rattle.stream.specs.declared.Fed.{Fed}
@@ -27,7 +27,7 @@ use Rattle.stream.proofs.Law.{all-written, fitting-fits, last-room, line-take, 
 use Rattle.stream.proofs.Laws.{went-less}
 use Rattle.chandump.specs.Run.{Answered, Ended, Further, Ran, Ready, Whole, Within}
 use Rattle.chandump.specs.declared.Got.{Got}
-use Rattle.chandump.specs.declared.Got.the-variants.{Bytes, Nothing, End, Fault}
+use Rattle.chandump.specs.declared.Got.the-variants.{Bytes}
 use Rattle.chandump.specs.declared.Part.{Part}
 use Rattle.chandump.specs.declared.Way.{Way}
 
@@ -46,7 +46,7 @@ module _ {c left : Collector} (block d : List ℕ) {after : List ℕ} {r : Fed} 
   put-text : take (r .put) after ≡ answersFrom c some
   put-text = rw (f .puts, f .leaves) (take-append-seam (answersFrom c some) (drop (length (answersFrom c some)) d))
 
-  pub answered : (ok : Bool) → Typed c → enough ≤ length d → Answered block (record { taken = r .taken; put = r .put; ok = ok }) after c left
+  pub answered : (ok : Bool) → Typed (partsOf c) → enough ≤ length d → Answered block (record { taken = r .taken; put = r .put; ok = ok }) after c left
   answered ok t h =
       record {
         grows = λ {input} {text} k. rw (put-text, f .takes, f .collects) (fed k (length d));
@@ -117,7 +117,7 @@ module _ {message d after : List ℕ} {w : Written} (v : Writes (accepted messag
 -- The last line.
 
 module _ {c left : Collector} (rest : List ℕ) {d after : List ℕ} {w : Written} (r : Replies c (lastLine rest) w d after left) where
-  pub last-never : {X : Type 0} {x : Refusal} → Typed c → enough ≤ length d → w ≡ Refused x → X
+  pub last-never : {X : Type 0} {x : Refusal} → Typed (partsOf c) → enough ≤ length d → w ≡ Refused x → X
   last-never t h e = never (r .writes) (omega (arith, last-room c rest t)) e
 
   pub last-put : (n : ℕ) → Ran rest c → Line rest → w ≡ Length n → Ended n after
@@ -195,9 +195,9 @@ module _ {held : ℕ} {block out : List ℕ} {c : Collector} (part : List ℕ) (
 
 -- The first call and the first read.
 
-pub begun-put : {d after : List ℕ} {w : Written} → Writes (accepted heading) w d after → (n : ℕ) → w ≡ Length n → Reached [] (take n after) [] fresh
+pub begun-put : {d after : List ℕ} {w : Written} → Writes (accepted heading) w d after → (n : ℕ) → w ≡ Length n → Reached [] (take n after) [] freshStored
 begun-put v n e = rw (wrote-text v n e) begun
 
-pub ready-first : {block out text : List ℕ} {c : Collector} → c ≡ fresh → Reached [] text [] fresh → limit < length block → enough ≤ length out → Ready 0 block out c
+pub ready-first : {block out text : List ℕ} {c : Collector} → c ≡ freshStored → Reached [] text [] freshStored → limit < length block → enough ≤ length out → Ready 0 block out c
 unfolding lineLength
 ready-first {text = text} e b m o = record { ran = record { input = []; text = text; reached = rw e b }; line = refl; small = omega arith; more = m; room = o }

@@ -4,7 +4,7 @@ use mathlib.Core.Bool.{true, false}
 use mathlib.Core.List.{List, [], _++_}
 use mathlib.Core.Path.{_≡_}
 use lib.ListN.{length, take, drop}
-use Rattle.collector.specs.Collector.{fresh}
+use Rattle.collector.specs.Stored.{freshStored}
 use Rattle.collector.specs.declared.Collector.{Collector}
 use Rattle.dump.specs.Input.{Line, outputOf}
 use Rattle.stream.specs.Stream.{Reached, enough, limit}
@@ -23,7 +23,7 @@ Within Fault most = Unit {0}
 
 -- At the start: where it goes on, what is put first is what a run has written that has read nothing.
 abbrev pub Begun : Sent → List ℕ → Type 0
-Begun r out = 0 < r .calls → Reached [] (take (r .done) out) [] fresh
+Begun r out = 0 < r .calls → Reached [] (take (r .done) out) [] freshStored
 
 -- a run comes to this, whatever it has read and written
 pub record Ran (rest : List ℕ) (c : Collector) : Type 0 where

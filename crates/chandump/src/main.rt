@@ -4,8 +4,9 @@ ghost use Prim.Native.Nat.{_+_, _<_, _≤_, _^_};
 ghost use mathlib.Core.Bool.{true};
 ghost use mathlib.Core.Path.{_≡_};
 ghost use lib.ListN.{length, take};
-ghost use Rattle.collector.specs.Collector.{fresh, held};
+ghost use Rattle.collector.specs.Collector.{held};
 ghost use Rattle.collector.specs.Histories.{Typed};
+ghost use Rattle.collector.specs.Stored.{freshStored, collectorOf};
 ghost use Rattle.dump.specs.Input.{Line};
 ghost use Rattle.stream.specs.Stream.{enough, limit};
 ghost use Rattle.chandump.specs.Run.{Answered, Begun, Ended, Further, Ran, Ready, Whole, Within};
@@ -124,7 +125,7 @@ fn receive(block: &mut [u8]) -> Got
 }
 
 // What the machine's arrays are: nothing runs here.
-fn known(bytes: [u8; Collector::CAPACITY], marks: [u8; Collector::PARTS])
+fn typed(bytes: [u8; Collector::CAPACITY], marks: [u8; Collector::PARTS])
     ensures { λ _. ⌜ Typed (held bytes marks) ⌝ }
 {}
 
@@ -139,14 +140,15 @@ struct Part {
 fn some(
     bytes: &mut [u8; Collector::CAPACITY],
     marks: &mut [u8; Collector::PARTS],
+    known: &mut [u8; Collector::KNOWN],
     block: &[u8],
     out: &mut [u8],
 ) -> Part
     requires { ⌜ enough ≤ length (now out) ⌝ }
-    ensures { λ r. ⌜ Answered (now (block .entry)) r (now (out .exit)) (held (now (bytes .entry)) (now (marks .entry))) (held (now (bytes .exit)) (now (marks .exit))) ⌝ }
+    ensures { λ r. ⌜ Answered (now (block .entry)) r (now (out .exit)) (collectorOf (now (bytes .entry)) (now (marks .entry)) (now (known .entry))) (collectorOf (now (bytes .exit)) (now (marks .exit)) (now (known .exit))) ⌝ }
 {
-    known(*bytes, *marks);
-    let fed = feed(bytes, marks, block, out);
+    typed(*bytes, *marks);
+    let fed = feed(bytes, marks, known, block, out);
     let put = fed.put;
     let ok = written(&out[0..put]);
     Part {
@@ -185,11 +187,12 @@ fn further(at: usize, part: Part) -> Way
 fn all(
     bytes: &mut [u8; Collector::CAPACITY],
     marks: &mut [u8; Collector::PARTS],
+    known: &mut [u8; Collector::KNOWN],
     block: &[u8],
     out: &mut [u8],
 ) -> Way
-    requires { ⌜ Ran (now block) (held (now bytes) (now marks)) × (enough ≤ length (now out)) ⌝ }
-    ensures { λ r. ⌜ (r .ok ≡ true → Whole (now (block .entry)) (r .at) (held (now (bytes .exit)) (now (marks .exit)))) × (r .at ≤ length (now (block .entry))) ⌝ }
+    requires { ⌜ Ran (now block) (collectorOf (now bytes) (now marks) (now known)) × (enough ≤ length (now out)) ⌝ }
+    ensures { λ r. ⌜ (r .ok ≡ true → Whole (now (block .entry)) (r .at) (collectorOf (now (bytes .exit)) (now (marks .exit)) (now (known .exit)))) × (r .at ≤ length (now (block .entry))) ⌝ }
 {
     let mut way = Way {
         at: 0,
@@ -198,7 +201,7 @@ fn all(
     };
     while way.on {
         let at = way.at;
-        let part = some(bytes, marks, &block[at..], out);
+        let part = some(bytes, marks, known, &block[at..], out);
         way = further(at, part);
     }
     way
@@ -215,15 +218,16 @@ struct Turn {
 fn answer(
     bytes: &mut [u8; Collector::CAPACITY],
     marks: &mut [u8; Collector::PARTS],
+    known: &mut [u8; Collector::KNOWN],
     block: &mut [u8],
     end: usize,
     calls: u64,
     out: &mut [u8],
 ) -> Turn
-    requires { ⌜ Ran (take end (now block)) (held (now bytes) (now marks)) × ((end ≤ length (now block)) × ((limit < length (now block)) × (enough ≤ length (now out)))) ⌝ }
-    ensures { λ r. ⌜ (0 < r .calls → Ready (r .held) (now (block .exit)) (now (out .exit)) (held (now (bytes .exit)) (now (marks .exit)))) × (r .calls ≤ calls) ⌝ }
+    requires { ⌜ Ran (take end (now block)) (collectorOf (now bytes) (now marks) (now known)) × ((end ≤ length (now block)) × ((limit < length (now block)) × (enough ≤ length (now out)))) ⌝ }
+    ensures { λ r. ⌜ (0 < r .calls → Ready (r .held) (now (block .exit)) (now (out .exit)) (collectorOf (now (bytes .exit)) (now (marks .exit)) (now (known .exit)))) × (r .calls ≤ calls) ⌝ }
 {
-    let way = all(bytes, marks, &block[0..end], out);
+    let way = all(bytes, marks, known, &block[0..end], out);
     let held = kept(block, way.at, end, LINE);
     if way.ok {
         return Turn { held, calls };
@@ -235,14 +239,15 @@ fn answer(
 fn last(
     bytes: &mut [u8; Collector::CAPACITY],
     marks: &mut [u8; Collector::PARTS],
+    known: &mut [u8; Collector::KNOWN],
     rest: &[u8],
     out: &mut [u8],
 ) -> usize
-    requires { ⌜ Ran (now rest) (held (now bytes) (now marks)) × (Line (now rest) × (enough ≤ length (now out))) ⌝ }
+    requires { ⌜ Ran (now rest) (collectorOf (now bytes) (now marks) (now known)) × (Line (now rest) × (enough ≤ length (now out))) ⌝ }
     ensures { λ r. ⌜ Ended r (now (out .exit)) ⌝ }
 {
-    known(*bytes, *marks);
-    let Written::Length(put) = finish(bytes, marks, rest, out) else {
+    typed(*bytes, *marks);
+    let Written::Length(put) = finish(bytes, marks, known, rest, out) else {
         return 0;
     };
     written(&out[0..put]);
@@ -253,21 +258,22 @@ fn last(
 fn once(
     bytes: &mut [u8; Collector::CAPACITY],
     marks: &mut [u8; Collector::PARTS],
+    known: &mut [u8; Collector::KNOWN],
     before: Turn,
     block: &mut [u8],
     out: &mut [u8],
 ) -> Turn
-    requires { ⌜ Ready (before .held) (now block) (now out) (held (now bytes) (now marks)) × (0 < before .calls) ⌝ }
-    ensures { λ r. ⌜ (0 < r .calls → Ready (r .held) (now (block .exit)) (now (out .exit)) (held (now (bytes .exit)) (now (marks .exit)))) × (r .calls < before .calls) ⌝ }
+    requires { ⌜ Ready (before .held) (now block) (now out) (collectorOf (now bytes) (now marks) (now known)) × (0 < before .calls) ⌝ }
+    ensures { λ r. ⌜ (0 < r .calls → Ready (r .held) (now (block .exit)) (now (out .exit)) (collectorOf (now (bytes .exit)) (now (marks .exit)) (now (known .exit)))) × (r .calls < before .calls) ⌝ }
 {
     let held = before.held;
     let calls = before.calls - 1;
     let got = receive(&mut block[held..]);
     match got {
-        Got::Bytes(n) => answer(bytes, marks, block, held + n, calls, out),
+        Got::Bytes(n) => answer(bytes, marks, known, block, held + n, calls, out),
         Got::Nothing => Turn { held, calls },
         Got::End => {
-            last(bytes, marks, &block[0..held], out);
+            last(bytes, marks, known, &block[0..held], out);
             Turn { held, calls: 0 }
         }
         Got::Fault => Turn { held, calls: 0 },
@@ -293,10 +299,11 @@ fn begun(out: &mut [u8]) -> Sent
 fn run(
     bytes: &mut [u8; Collector::CAPACITY],
     marks: &mut [u8; Collector::PARTS],
+    known: &mut [u8; Collector::KNOWN],
     block: &mut [u8],
     out: &mut [u8],
 )
-    requires { ⌜ (held (now bytes) (now marks) ≡ fresh) × ((limit < length (now block)) × (enough ≤ length (now out))) ⌝ }
+    requires { ⌜ (collectorOf (now bytes) (now marks) (now known) ≡ freshStored) × ((limit < length (now block)) × (enough ≤ length (now out))) ⌝ }
 {
     let first = begun(out);
     let mut turn = Turn {
@@ -304,7 +311,7 @@ fn run(
         calls: first.calls,
     };
     while 0 < turn.calls {
-        turn = once(bytes, marks, turn, block, out);
+        turn = once(bytes, marks, known, turn, block, out);
     }
 }
 
@@ -339,7 +346,8 @@ fn main() {
     }
     let mut bytes = [0; Collector::CAPACITY];
     let mut marks = [0; Collector::PARTS];
+    let mut known = [0; Collector::KNOWN];
     let mut block = io::large_buffer();
     let mut out = io::large_buffer();
-    run(&mut bytes, &mut marks, &mut block, &mut out);
+    run(&mut bytes, &mut marks, &mut known, &mut block, &mut out);
 }

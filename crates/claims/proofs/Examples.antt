@@ -17,8 +17,8 @@ use Rattle.base.specs.declared.connection.Channel.the-variants.{Current, Number
 use Rattle.access.specs.GetChannelAccess.{command, commandBytes}
 use Rattle.access.specs.declared.get_channel_access.ChannelAccessType.the-variants.{NonVolatile}
 use Rattle.claims.proofs.Collecting.{P11, P12-first, P12-then, P13, call, seventeen-at-63, sevens, sixteen-at-63}
-use Rattle.collector.specs.Collector.{complete, fresh, listOf, missing, standingOf, taking}
-use Rattle.collector.specs.Histories.{after}
+use Rattle.collector.specs.Collector.{complete, missing}
+use Rattle.collector.specs.Stored.{afterStored, freshStored, listStored, standingStored, takingStored}
 use Rattle.activation.specs.ActivateSession as Activate
 use Rattle.activation.specs.ActivateSession.{beginOf}
 use Rattle.challenge.specs.GetSessionChallenge as Challenge
@@ -70,16 +70,16 @@ examples =
     ∷ (Suites.stepAfter 1 twoRecords 0 false .answer gives Suite (Suites.suite 3))
     ∷ (Suites.numbersOf twoRecords gives [])
     -- P11
-    ∷ (standingOf (after (call 0 0 ∷ [])) gives accepted (complete 0))
-    ∷ (listOf (after (call 0 0 ∷ [])) gives accepted [])
+    ∷ (standingStored (afterStored (call 0 0 ∷ [])) gives accepted (complete 0))
+    ∷ (listStored (afterStored (call 0 0 ∷ [])) gives accepted [])
     -- P12
-    ∷ (standingOf (after (call 2 0 ∷ call 0 16 ∷ [])) gives accepted (missing 1))
-    ∷ (standingOf (after (call 1 3 ∷ call 2 0 ∷ call 0 16 ∷ [])) gives accepted (complete 19))
+    ∷ (standingStored (afterStored (call 2 0 ∷ call 0 16 ∷ [])) gives accepted (missing 1))
+    ∷ (standingStored (afterStored (call 1 3 ∷ call 2 0 ∷ call 0 16 ∷ [])) gives accepted (complete 19))
     -- P13
-    ∷ (verdictOf (taking (after (call 1 3 ∷ [])) 2 (sevens 1)) gives refused 12 [])
+    ∷ (verdictOf (takingStored (afterStored (call 1 3 ∷ [])) 2 (sevens 1)) gives refused 12 [])
     -- "Sixteen bytes accepted at index 63; seventeen refused 2."
-    ∷ (verdictOf (taking fresh 63 (sevens 16)) gives accepted tt)
-    ∷ (verdictOf (taking fresh 63 (sevens 17)) gives refused 2 [])
+    ∷ (verdictOf (takingStored freshStored 63 (sevens 16)) gives accepted tt)
+    ∷ (verdictOf (takingStored freshStored 63 (sevens 17)) gives refused 2 [])
     -- C-18: an answer's authentication byte counts by its low nibble, and 4 carries it whole; a request's counts whole
     ∷ (beginOf (0x12 ∷ 1 ∷ replicate 7 0 ++ 4 ∷ []) gives accepted (record { «auth_type» = MD5; «session_id» = 1; «initial_sequence_number» = 0; «maximum_privilege_level» = Administrator }))
     ∷ (beginOf (0x13 ∷ 1 ∷ replicate 7 0 ++ 4 ∷ []) gives refused 4 (0x13 ∷ []))
@@ -91,4 +91,4 @@ examples =
 
 pub examples-hold : map (λ (r : Row). r .what gives r .what) examples ≡ map (λ (r : Row). r .what gives r .answer) examples
 unfolding examples Suites.stepAfter Suites.suites Suites.upTo
-examples-hold = rw (P11, P12-first, P12-then, P13, sixteen-at-63, seventeen-at-63)
+examples-hold = rw (P11 .0, P11 .1, P12-first, P12-then, P13, sixteen-at-63, seventeen-at-63)

@@ -9,7 +9,7 @@ use lib.ListN.{length, take, getD}
 use lib.Seq.{getD-take, ext-getD, length-take-le}
 use lib.Dec.{ltb, eqb}
 use borrow.Author.Tests.{eq-eqb, ne-eqb, lt-ltb, le-ltb, ltb-true, eqb-true}
-use Rattle.collector.specs.declared.Collector.{Collector}
+use Rattle.collector.specs.Parts.{Parts}
 use Rattle.collector.specs.Collector.{_and_, _or_, leastTo, lowest, isComplete}
 use Rattle.collector.specs.Demand.{controllers, lastNeeded}
 use Rattle.collector.specs.Histories.{Typed}
@@ -51,6 +51,16 @@ lowest-at ms (suc n) h =
     (eq-or-ne (getD ms n 0) 0))
     (lt-or-le (lowest ms n) n)
 
+-- the least: any unheard index is not below it
+pub lowest-is : (ms : List ℕ) (n k : ℕ) → k ≤ n → ((i : ℕ) → i < k → getD ms i 0 ≡ 0 → ⊥) → (k < n → getD ms k 0 ≡ 0) → lowest ms n ≡ k
+lowest-is ms n k kn below at =
+    ⊎-elim (λ (l : lowest ms n < k). absurd (below (lowest ms n) l (lowest-at ms n (omega arith))))
+    (λ (g : k ≤ lowest ms n).
+    ⊎-elim (λ (e : lowest ms n ≡ k). e)
+    (λ (ne : lowest ms n ≡ k → ⊥). let q : lowest ms n ≤ n = lowest-le ms n in absurd (lowest-below ms n k (omega arith) (at (omega arith))))
+    (eq-or-ne (lowest ms n) k))
+    (lt-or-le (lowest ms n) k)
+
 -- complete
 
 either-cases : (a b : Bool) → (a or b) ≡ true → (a ≡ true) ⊎ (b ≡ true)
@@ -61,13 +71,13 @@ either-right : (a b : Bool) → b ≡ true → (a or b) ≡ true
 either-right true b e = refl
 either-right false b e = e
 
-pub incomplete-low : (c : Collector) → isComplete c ≡ false → lowest (c .marks) 64 < 64
+pub incomplete-low : (c : Parts) → isComplete c ≡ false → lowest (c .marks) 64 < 64
 unfolding isComplete
 incomplete-low c f =
     let m : lowest (c .marks) 64 ≤ 64 = lowest-le (c .marks) 64 in
     ⊎-elim (λ (e : lowest (c .marks) 64 ≡ 64). absurd (true-not-false (rw (eq-eqb (lowest (c .marks) 64) 64 e)) f)) (λ (n : lowest (c .marks) 64 ≡ 64 → ⊥). omega arith) (eq-or-ne (lowest (c .marks) 64) 64)
 
-module _ (c : Collector) (l : List ℕ) (t : TellsOf l c) where
+module _ (c : Parts) (l : List ℕ) (t : TellsOf l c) where
   -- complete: the lowest unheard index is past the last that the list needs
   past : isComplete c ≡ true → lastNeeded controllers l < lowest (c .marks) 64
   unfolding isComplete

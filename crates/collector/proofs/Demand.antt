@@ -1,4 +1,4 @@
--- The collector keeps demand 3 (specs/Demand.antt); and what document 01 says of it besides. A history is any list of calls, the latest first.
+-- A collector's parts keep demand 3 (specs/Demand.antt), and with them the collector (Storing.antt); and what document 01 says of it besides. A history is any list of calls, the latest first.
 use Prim.Native.Nat.{ℕ, suc, _+_, _-_, _*_, _/_, _≤_, _<_, min}
 use mathlib.Core.Bool.{true, false}
 use mathlib.Core.List.{List, [], _∷_}
@@ -12,7 +12,7 @@ use Rattle.base.proofs.little.Laws.{bytes-drop, bytes-take}
 use Rattle.collector.specs.Collector.{complete, missing, lastIndex, partLength, capacity, answerOf, wellFormed, taking, lowest, isComplete, standingOf, listOf}
 use Rattle.collector.specs.Demand.{Call, AllBytes, HeardIn, Explains, AllHeard, Explained, Demand3, IsList, controllers, collecting}
 use Rattle.collector.specs.Histories.{Among, Reachable, Typed, after, acceptedOf}
-use Rattle.collector.specs.declared.Collector.{Collector}
+use Rattle.collector.specs.Parts.{Parts}
 use Rattle.collector.proofs.Basic.{true-not-false, bool-cases, lt-or-le, eq-or-ne}
 use Rattle.collector.proofs.Complete.{lowest-below, lowest-at, incomplete-low, complete-heard, complete-low, complete-bytes, heard-complete}
 use Rattle.collector.proofs.Entries.{taking-9, standing-9, standing-complete, standing-missing, list-9, list-complete, list-missing}
@@ -26,13 +26,13 @@ use Rattle.collector.proofs.Step.StepView.{bad-index, too-long, repeats
 
 -- where it stands, told
 
-complete-or : (c : Collector) (n : ℕ) → wellFormed c ≡ true → standingOf c ≡ accepted (complete n) → isComplete c ≡ true
+complete-or : (c : Parts) (n : ℕ) → wellFormed c ≡ true → standingOf c ≡ accepted (complete n) → isComplete c ≡ true
 complete-or c n w e =
     ⊎-elim (λ (t : isComplete c ≡ true). t)
     (λ (f : isComplete c ≡ false). let z : _≡_ {A = ℕ} 0 1 = cc (standing-missing c w f) in absurd (omega arith))
     (bool-cases (isComplete c))
 
-missing-or : (c : Collector) (k : ℕ) → wellFormed c ≡ true → standingOf c ≡ accepted (missing k) → (isComplete c ≡ false) × (k ≡ lowest (c .marks) 64)
+missing-or : (c : Parts) (k : ℕ) → wellFormed c ≡ true → standingOf c ≡ accepted (missing k) → (isComplete c ≡ false) × (k ≡ lowest (c .marks) 64)
 missing-or c k w e =
     ⊎-elim (λ (t : isComplete c ≡ true). let z : _≡_ {A = ℕ} 0 1 = cc (standing-complete c w t) in absurd (omega arith))
     (λ (f : isComplete c ≡ false). (f, cc (standing-missing c w f)))
@@ -89,7 +89,7 @@ module _ (h : List Call) (u : AllBytes h) where
     exactly : isAccepted (taking (after h) (a .index) (a .content)) ≡ true ↔ Explained controllers (a ∷ acceptedOf h)
     exactly = (accepted-explained h u a v, explained-accepted h u a v)
 
-    refused-as : (r : Outcome Collector) → StepView (after h) (a .index) (a .content) r → r ≡ refused 12 [] ↔ ((a .index ≤ lastIndex) × (length (a .content) ≤ partLength) × (isAccepted r ≡ false))
+    refused-as : (r : Outcome Parts) → StepView (after h) (a .index) (a .content) r → r ≡ refused 12 [] ↔ ((a .index ≤ lastIndex) × (length (a .content) ≤ partLength) × (isAccepted r ≡ false))
     refused-as r (bad-index k) = ((λ e. let z : _≡_ {A = ℕ} 7 12 = cc in absurd (omega arith)), λ (i, l, n). absurd (omega arith))
     refused-as r (too-long j k) = ((λ e. let z : _≡_ {A = ℕ} 2 12 = cc in absurd (omega arith)), λ (i, l, n). absurd (omega arith))
     refused-as r (repeats j k nz q) = ((λ e. absurd (true-not-false refl (ap isAccepted e))), λ (i, l, n). absurd (true-not-false refl n))
@@ -151,19 +151,19 @@ demand-3 =
       accepted-exactly = λ h w a v il l. exactly h w a v;
     }
 
--- The test that the code runs passes exactly for what calls make from a fresh one.
-module _ (c : Collector) (t : Typed c) where
+-- The test of the parts passes exactly for what calls make from fresh ones.
+module _ (c : Parts) (t : Typed c) where
   pub well-formed-exactly : wellFormed c ≡ true ↔ Reachable c
   well-formed-exactly = (wf-reachable c t, reachable-wf c)
 
   unreachable : (Reachable c → ⊥) → wellFormed c ≡ false
   unreachable = not-exactly (wellFormed c) well-formed-exactly .1
 
-  -- so each entry gives 9 exactly to "a collector that no calls make from a fresh one"
+  -- so each definition gives 9 exactly to parts that no calls make
   pub answer-refuses-9 : (i : ℕ) (d : List ℕ) → taking c i d ≡ refused 9 [] ↔ (Reachable c → ⊥)
   answer-refuses-9 i d = ((λ e r. never (taking c i d) (view c i d (reachable-wf c r)) e), λ n. taking-9 c i d (unreachable n))
     where
-      never : (r : Outcome Collector) → StepView c i d r → r ≡ refused 9 [] → ⊥
+      never : (r : Outcome Parts) → StepView c i d r → r ≡ refused 9 [] → ⊥
       never r (bad-index k) e = let z : _≡_ {A = ℕ} 7 9 = cc in omega arith
       never r (too-long j k) e = let z : _≡_ {A = ℕ} 2 9 = cc in omega arith
       never r (repeats j k nz q) e = true-not-false refl (ap isAccepted e)
@@ -182,5 +182,5 @@ module _ (c : Collector) (t : Typed c) where
       go r (inr n) e = let z : _≡_ {A = ℕ} 13 9 = cc (list-missing c (reachable-wf c r) n) in omega arith
 
 -- what calls make is of the machine
-pub reachable-typed : (c : Collector) → Reachable c → Typed c
+pub reachable-typed : (c : Parts) → Reachable c → Typed c
 reachable-typed c r = subst Typed (r .made) (history (r .calls) (r .bytes) .typed)

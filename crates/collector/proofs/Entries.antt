@@ -1,32 +1,24 @@
 -- What each entry answers, by the tests that the code makes.
 use Prim.Native.Nat.{ℕ, suc, _+_, _-_, _*_, _≤_, _<_}
-use mathlib.Core.Path.{_≡_, sym, ap, _∙_, subst}
-use mathlib.Core.Logic.{⊎-elim}
+use mathlib.Core.Path.{_≡_, sym, ap, _∙_}
 use mathlib.Core.List.{List, [], _∷_}
 use mathlib.Core.Bool.{true, false}
 use native.Mathlib.Omega.{arith}
 use native.Mathlib.Numerals.{add-one}
-use lib.ListN.{length, getD, set, take, drop}
-use lib.Seq.{paste}
+use lib.ListN.{length, getD, set, take}
 use borrow.Author.Tests.{eq-eqb, ne-eqb, lt-ltb, le-ltb}
 use Rattle.base.specs.Outcome.{accepted, refused}
-use Rattle.base.specs.Verdict.{Gives}
-use Rattle.base.specs.declared.refusal.Refusal.{Refusal}
-use Rattle.base.specs.declared.verdict.Verdict.the-variants.{Accepted, Refused}
-use Rattle.base.proofs.verdict.Laws.{giving, refusing}
-use Rattle.collector.specs.declared.Collector.{Collector}
-use Rattle.collector.specs.declared.Judgement.{Judgement}
-use Rattle.collector.specs.declared.Judgement.the-variants.{Store, Keep, Refuse}
+use Rattle.collector.specs.Parts.{Parts}
+use Rattle.collector.specs.declared.Judgement.the-variants.{Store}
 use Rattle.collector.specs.declared.shape.Shape.{Shape}
 use Rattle.collector.specs.Collector.{complete, missing, marksFit, bytesFit, wellFormed, standsAt, hasPart, put, joining, taking, isComplete, standingOf, listOf, leastTo, lowest, held}
 use Rattle.collector.specs.Shape.{shapeOf, fits, completeShape, ShapeFits, shapeWith, Judged}
-use Rattle.collector.proofs.Basic.{both-left, bool-cases, low-small}
-use Rattle.collector.proofs.Step.{wf-marks}
+use Rattle.collector.proofs.Basic.{both-left}
 use Rattle.collector.proofs.shape.Laws.{marks-by-shape, marks-with, put-test, lowest-free, free-small, fit-of, complete-by-shape}
 
 -- an answer
 
-module _ (c : Collector) (i : ℕ) (d : List ℕ) where
+module _ (c : Parts) (i : ℕ) (d : List ℕ) where
   pub taking-9 : wellFormed c ≡ false → taking c i d ≡ refused 9 []
   unfolding taking
   taking-9 w = rw w
@@ -132,28 +124,9 @@ module _ (bs ms : List ℕ) (s : Shape) (es : s ≡ shapeOf ms) where
             pub says-differs : (at : ℕ) → at ≡ 16 * i → standsAt bs at d ≡ false → taking (held bs ms) i d ≡ refused 12 []
             says-differs at e f = differs (held bs ms) i d w h k heard (has-by at e ∙ f)
 
--- what a judgement leaves
-
-module _ (c : Collector) (i : ℕ) (d : List ℕ) (v : Judgement) (j : Judged c i d v) where
-  pub stored : v ≡ Store → (taking c i d ≡ accepted (put c i d)) × ((i ≤ 63) × (length d ≤ 16))
-  stored e = subst (Judged c i d) e j
-
-  pub left-store : v ≡ Store → (at : ℕ) → at ≡ 16 * i → (bs ms : List ℕ) → bs ≡ paste (c .bytes) at d (length d) → ms ≡ set (c .marks) i (length d + 1) → Gives (taking c i d) c Accepted (held bs ms)
-  left-store e at a bs ms p′ q =
-      let p : bs ≡ paste (c .bytes) (16 * i) d (length d) = p′ ∙ ap (λ (x : ℕ). paste (c .bytes) x d (length d)) a in
-      let f : ms ≡ set (c .marks) i (suc (length d)) = q ∙ ap (set (c .marks) i) (add-one (length d)) in
-      let z : put c i d ≡ held bs ms = rw (p, f) in
-      giving c (held bs ms) (stored e .0 ∙ ap accepted z)
-
-  pub left-keep : v ≡ Keep → Gives (taking c i d) c Accepted c
-  left-keep e = giving c c (subst (Judged c i d) e j)
-
-  pub left-refuse : (r : Refusal) → v ≡ Refuse r → Gives (taking c i d) c (Refused r) c
-  left-refuse r e = refusing c r (subst (Judged c i d) e j)
-
 -- where it stands
 
-module _ (c : Collector) where
+module _ (c : Parts) where
   pub standing-9 : wellFormed c ≡ false → standingOf c ≡ refused 9 []
   standing-9 w = rw w
 
@@ -171,25 +144,3 @@ module _ (c : Collector) where
 
   pub list-missing : wellFormed c ≡ true → isComplete c ≡ false → listOf c ≡ refused 13 (lowest (c .marks) 64 ∷ [])
   list-missing w e = rw (w, e)
-
-  -- the length of a complete list
-  pub told-within : (n : ℕ) → standingOf c ≡ accepted (complete n) → n ≤ 1024
-  told-within n e =
-      ⊎-elim
-      (λ (w : wellFormed c ≡ true).
-      ⊎-elim
-      (λ (y : isComplete c ≡ true). let q : n ≡ leastTo (c .marks) 64 = cc (e, standing-complete w y) in omega (arith, low-small (c .marks) (leastTo (c .marks) 64) (wf-marks c w)))
-      (λ (z : isComplete c ≡ false). let q : _≡_ {A = ℕ} 0 1 = cc (e, standing-missing w z) in absurd (omega arith))
-      (bool-cases (isComplete c)))
-      (λ (u : wellFormed c ≡ false). let q : _≡_ {A = ℕ} 0 1 = cc (e, standing-9 u) in absurd (omega arith))
-      (bool-cases (wellFormed c))
-
-  -- the first bytes of the array, as the code cuts them out
-  pub told-list : (n : ℕ) → standingOf c ≡ accepted (complete n) → listOf c ≡ accepted (take (n - 0) (drop 0 (c .bytes)))
-  told-list n e = let z : n - 0 ≡ n = omega arith in rw (e, z)
-
-  pub unlisted : (i : ℕ) → standingOf c ≡ accepted (missing i) → listOf c ≡ refused 13 (i ∷ [])
-  unlisted i e = rw e
-
-  pub unformed : standingOf c ≡ refused 9 [] → listOf c ≡ refused 9 []
-  unformed e = rw e

@@ -6,7 +6,7 @@ use mathlib.Core.List.{List, [], _∷_}
 use mathlib.Core.Bool.{Bool, true, false}
 use native.Mathlib.Omega.{arith}
 use lib.ListN.{length, getD}
-use Rattle.collector.specs.declared.Collector.{Collector}
+use Rattle.collector.specs.Parts.{Parts}
 use Rattle.base.specs.Choice.{if_then_else_}
 use Rattle.base.specs.Outcome.{Outcome, accepted, refused, isAccepted}
 use Rattle.base.specs.Verdict.{recordOf}
@@ -20,19 +20,19 @@ use Rattle.collector.proofs.Step.{TellsOf, answer-same, StepView, view}
 use Rattle.collector.proofs.Step.StepView.{bad-index, too-long, repeats, differs, joins, clashes}
 use Rattle.collector.proofs.History.{History, history}
 
-abbrev pub Marked : Collector → ℕ → Type 0
+abbrev pub Marked : Parts → ℕ → Type 0
 Marked c j = getD (c .marks) j 0 ≡ 0 → ⊥
 
-pub record Hears (c : Collector) (i : ℕ) (r : Outcome Collector) : Type 0 where
+pub record Hears (c : Parts) (i : ℕ) (r : Outcome Parts) : Type 0 where
   pub stays : (j : ℕ) → Marked c j → Marked (recordOf c r) j
   pub here : isAccepted r ≡ true → (i < 64) × Marked (recordOf c r) i
   pub only : (j : ℕ) → Marked (recordOf c r) j → Marked c j ⊎ ((i ≡ j) × (isAccepted r ≡ true))
 
-module _ (c : Collector) (i : ℕ) (d : List ℕ) (t : Typed c) (w : wellFormed c ≡ true) where
+module _ (c : Parts) (i : ℕ) (d : List ℕ) (t : Typed c) (w : wellFormed c ≡ true) where
   deaf : (n : ℕ) → Hears c i (refused n [])
   deaf n = record { stays = λ j m. m; here = λ e. absurd (true-not-false e refl); only = λ j m. inl m }
 
-  hears-by : (r : Outcome Collector) → StepView c i d r → Hears c i r
+  hears-by : (r : Outcome Parts) → StepView c i d r → Hears c i r
   hears-by r (bad-index h) = deaf 7
   hears-by r (too-long il h) = deaf 2
   hears-by r (repeats il dl nz e) = record { stays = λ j m. m; here = λ q. (il, nz); only = λ j m. inl m }
@@ -67,13 +67,13 @@ known (a ∷ h) u =
       heard = λ j x. go-heard (taking (after h) (a .index) (a .content)) (k .heard) j (isAccepted (taking (after h) (a .index) (a .content))) refl (s .only j x);
     }
   where
-    go-marked : (r : Outcome Collector) → Hears (after h) (a .index) r → ((j : ℕ) → HeardIn j (acceptedOf h) → (j < 64) × Marked (after h) j)
+    go-marked : (r : Outcome Parts) → Hears (after h) (a .index) r → ((j : ℕ) → HeardIn j (acceptedOf h) → (j < 64) × Marked (after h) j)
         → (j : ℕ) (b : Bool) → isAccepted r ≡ b → HeardIn j (if b then a ∷ acceptedOf h else acceptedOf h) → (j < 64) × Marked (recordOf (after h) r) j
     go-marked r s f j true e (inl q) = subst (λ (n : ℕ). (n < 64) × Marked (recordOf (after h) r) n) q (s .here e)
     go-marked r s f j true e (inr x) = (f j x .0, s .stays j (f j x .1))
     go-marked r s f j false e x = (f j x .0, s .stays j (f j x .1))
 
-    go-heard : (r : Outcome Collector) → ((j : ℕ) → Marked (after h) j → HeardIn j (acceptedOf h))
+    go-heard : (r : Outcome Parts) → ((j : ℕ) → Marked (after h) j → HeardIn j (acceptedOf h))
         → (j : ℕ) (b : Bool) → isAccepted r ≡ b → Marked (after h) j ⊎ ((a .index ≡ j) × (isAccepted r ≡ true)) → HeardIn j (if b then a ∷ acceptedOf h else acceptedOf h)
     go-heard r f j true e (inl m) = inr (f j m)
     go-heard r f j true e (inr q) = inl (q .0)
@@ -98,7 +98,7 @@ among-explains l a (b ∷ h) (inl q) e = subst (λ (x : Call). answerOf l (x .in
 among-explains l a (b ∷ h) (inr x) e = among-explains l a h x (e .1)
 
 -- an equal repeat is accepted and changes nothing
-pub repeat-by : (c : Collector) (i : ℕ) (d l : List ℕ) → TellsOf l c → answerOf l i ≡ d → i < 64 → length d ≤ 16 → Marked c i → (r : Outcome Collector) → StepView c i d r → r ≡ accepted c
+pub repeat-by : (c : Parts) (i : ℕ) (d l : List ℕ) → TellsOf l c → answerOf l i ≡ d → i < 64 → length d ≤ 16 → Marked c i → (r : Outcome Parts) → StepView c i d r → r ≡ accepted c
 repeat-by c i d l t a il dl m r (bad-index h) = absurd (omega arith)
 repeat-by c i d l t a il dl m r (too-long j h) = absurd (omega arith)
 repeat-by c i d l t a il dl m r (repeats j k nz e) = refl

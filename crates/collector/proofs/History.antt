@@ -6,7 +6,7 @@ use mathlib.Core.Bool.{Bool, true, false}
 use native.Mathlib.Omega.{arith}
 use lib.ListN.{length, take}
 use lib.Seq.{length-take-le}
-use Rattle.collector.specs.declared.Collector.{Collector}
+use Rattle.collector.specs.Parts.{Parts}
 use Rattle.base.specs.Choice.{if_then_else_}
 use Rattle.base.specs.Field.{Bytes}
 use Rattle.base.specs.Outcome.{Outcome, refused, isAccepted}
@@ -22,7 +22,7 @@ use Rattle.collector.proofs.Step.StepView.{bad-index, too-long, repeats
 
 -- what an answer to a well-formed collector leaves
 
-pub record Stepped (c : Collector) (i : ℕ) (d : List ℕ) (r : Outcome Collector) : Type 0 where
+pub record Stepped (c : Parts) (i : ℕ) (d : List ℕ) (r : Outcome Parts) : Type 0 where
   pub typed : Typed (recordOf c r)
   pub wf : wellFormed (recordOf c r) ≡ true
   pub old : (l : List ℕ) → TellsOf l (recordOf c r) → TellsOf l c
@@ -31,7 +31,7 @@ pub record Stepped (c : Collector) (i : ℕ) (d : List ℕ) (r : Outcome Collect
   pub kept : isAccepted r ≡ false → recordOf c r ≡ c
   pub honest : (l : List ℕ) → TellsOf l c → controllers .Answers l i d → isAccepted r ≡ true
 
-module _ (c : Collector) (i : ℕ) (d : List ℕ) (t : Typed c) (w : wellFormed c ≡ true) (b : Bytes d) where
+module _ (c : Parts) (i : ℕ) (d : List ℕ) (t : Typed c) (w : wellFormed c ≡ true) (b : Bytes d) where
   -- a refusal that no list contradicts
   refusal : (n : ℕ) → ((l : List ℕ) → TellsOf l c → controllers .Answers l i d → ⊥) → Stepped c i d (refused n [])
   refusal n never =
@@ -45,7 +45,7 @@ module _ (c : Collector) (i : ℕ) (d : List ℕ) (t : Typed c) (w : wellFormed 
         honest = λ l s a. absurd (never l s a);
       }
 
-  stepped-by : (r : Outcome Collector) → StepView c i d r → Stepped c i d r
+  stepped-by : (r : Outcome Parts) → StepView c i d r → Stepped c i d r
   stepped-by r (bad-index h) = refusal 7 (λ l s a. omega (arith, a .0))
   stepped-by r (too-long il h) = refusal 2 (λ l s a. omega (arith, ap length (a .1), answer-length l i))
   stepped-by r (repeats il dl nz e) =
@@ -98,22 +98,22 @@ history (a ∷ h) u =
       from = λ l n e. go-from (taking (after h) (a .index) (a .content)) s (m .from) l n (isAccepted (taking (after h) (a .index) (a .content))) refl e;
     }
   where
-    go-to : (r : Outcome Collector) → Stepped (after h) (a .index) (a .content) r → ((l : List ℕ) → TellsOf l (after h) → Explains controllers l (acceptedOf h))
+    go-to : (r : Outcome Parts) → Stepped (after h) (a .index) (a .content) r → ((l : List ℕ) → TellsOf l (after h) → Explains controllers l (acceptedOf h))
         → (l : List ℕ) → TellsOf l (recordOf (after h) r) → (b : Bool) → isAccepted r ≡ b → Explains controllers l (if b then a ∷ acceptedOf h else acceptedOf h)
     go-to r s to l t true e = (s .new l t e, to l (s .old l t))
     go-to r s to l t false e = to l (s .old l t)
 
-    go-from : (r : Outcome Collector) → Stepped (after h) (a .index) (a .content) r → ((l : List ℕ) → length l ≤ 1024 → Explains controllers l (acceptedOf h) → TellsOf l (after h))
+    go-from : (r : Outcome Parts) → Stepped (after h) (a .index) (a .content) r → ((l : List ℕ) → length l ≤ 1024 → Explains controllers l (acceptedOf h) → TellsOf l (after h))
         → (l : List ℕ) → length l ≤ 1024 → (b : Bool) → isAccepted r ≡ b → Explains controllers l (if b then a ∷ acceptedOf h else acceptedOf h) → TellsOf l (recordOf (after h) r)
     go-from r s from l n true e x = s .adds l (from l n (x .1)) (x .0)
-    go-from r s from l n false e x = subst (λ (c : Collector). TellsOf l c) (sym (s .kept e)) (from l n x)
+    go-from r s from l n false e x = subst (λ (c : Parts). TellsOf l c) (sym (s .kept e)) (from l n x)
 
 -- an answer is accepted exactly where a list explains it with those accepted
 
 pub explained : (h : List Call) → AllBytes h → Explained controllers (acceptedOf h)
 explained h u =
     let m : History h = history h u in
-    let c : Collector = after h in
+    let c : Parts = after h in
     let ok : MarksOk (after h .marks) (leastTo (after h .marks) 64) = wf-marks (after h) (m .wf) in
     let small : leastTo (after h .marks) 64 ≤ 1024 = low-small (after h .marks) (leastTo (after h .marks) 64) ok in
     let long : length (after h .bytes) ≡ 1024 = m .typed .bytes in

@@ -9,4 +9,6 @@ pub mod Parts
 pub mod Reach
 pub mod Said
 pub mod Step
+pub mod Stored
+pub mod Storing
 pub mod Unique

@@ -7,7 +7,7 @@ use mathlib.Core.Bool.{true}
 use native.Mathlib.Omega.{arith}
 use lib.ListN.{length, take, drop, getD, set, replicate, length-take, length-drop, length-set, length-replicate}
 use lib.Seq.{paste, length-paste, getD-take, getD-drop, getD-set-same, getD-set-other, ext-getD, set-set, set-getD}
-use Rattle.collector.specs.declared.Collector.{Collector}
+use Rattle.collector.specs.Parts.{Parts}
 use Rattle.base.specs.Outcome.{Outcome, accepted}
 use Rattle.base.specs.Verdict.{recordOf}
 use Rattle.base.proofs.little.Laws.{bytes-drop, bytes-paste, bytes-take, bytes-zeros, zero-at}
@@ -21,7 +21,7 @@ use Rattle.collector.proofs.Step.StepView.{bad-index, too-long, repeats
 use Rattle.collector.proofs.History.{history}
 use Rattle.collector.proofs.Heard.{Marked}
 
-collector-eq : (c e : Collector) → c .bytes ≡ e .bytes → c .marks ≡ e .marks → c ≡ e
+collector-eq : (c e : Parts) → c .bytes ≡ e .bytes → c .marks ≡ e .marks → c ≡ e
 collector-eq c e p q = λ i. record { bytes = p i; marks = q i }
 
 blank : List ℕ
@@ -35,13 +35,13 @@ blank-at : (k : ℕ) → getD blank k 0 ≡ 0
 unfolding blank
 blank-at k = zero-at 16 k
 
-abbrev erase : Collector → ℕ → Collector
+abbrev erase : Parts → ℕ → Parts
 erase c n = record { bytes = paste (c .bytes) (16 * n) blank (length blank); marks = set (c .marks) n 0 }
 
-abbrev partAt : Collector → ℕ → List ℕ
+abbrev partAt : Parts → ℕ → List ℕ
 partAt c n = take (getD (c .marks) n 0 - 1) (drop (16 * n) (c .bytes))
 
-module _ (c : Collector) (n : ℕ) (t : Typed c) (nl : n < 64) where
+module _ (c : Parts) (n : ℕ) (t : Typed c) (nl : n < 64) where
   blank-fits : length blank ≤ 16
   blank-fits = omega (arith, blank-length)
 
@@ -137,7 +137,7 @@ module _ (c : Collector) (n : ℕ) (t : Typed c) (nl : n < 64) where
         marks = set-set (c .marks) n 0 (suc (length (partAt c n))) ∙ ap (λ (x : ℕ). set (c .marks) n x) part-length ∙ set-getD (c .marks) n 0
 
 -- an answer at a free index that leaves the collector well-formed is accepted
-joins-by : (c : Collector) (i : ℕ) (d : List ℕ) → i < 64 → length d ≤ 16 → getD (c .marks) i 0 ≡ 0 → wellFormed (put c i d) ≡ true → (r : Outcome Collector) → StepView c i d r → r ≡ accepted (put c i d)
+joins-by : (c : Parts) (i : ℕ) (d : List ℕ) → i < 64 → length d ≤ 16 → getD (c .marks) i 0 ≡ 0 → wellFormed (put c i d) ≡ true → (r : Outcome Parts) → StepView c i d r → r ≡ accepted (put c i d)
 joins-by c i d il dl z w r (bad-index h) = absurd (omega arith)
 joins-by c i d il dl z w r (too-long j h) = absurd (omega arith)
 joins-by c i d il dl z w r (repeats j k nz e) = absurd (nz z)
@@ -145,7 +145,7 @@ joins-by c i d il dl z w r (differs j k nz e) = absurd (nz z)
 joins-by c i d il dl z w r (joins j k y e) = refl
 joins-by c i d il dl z w r (clashes j k y e) = absurd (true-not-false w e)
 
-module _ (c : Collector) (n : ℕ) (t : Typed c) (nl : n < 64) (w : wellFormed c ≡ true) (m : Marked c n) where
+module _ (c : Parts) (n : ℕ) (t : Typed c) (nl : n < 64) (w : wellFormed c ≡ true) (m : Marked c n) where
   erase-wf : wellFormed (erase c n) ≡ true
   erase-wf =
       wf-of (erase c n) (take (leastTo (c .marks) 64) (c .bytes))
@@ -155,7 +155,7 @@ module _ (c : Collector) (n : ℕ) (t : Typed c) (nl : n < 64) (w : wellFormed c
   again : taking (erase c n) n (partAt c n) ≡ accepted c
   again =
       joins-by (erase c n) n (partAt c n) nl (part-fits c n t nl w m) (unmarked c n t nl)
-      (subst (λ (x : Collector). wellFormed x ≡ true) (sym (back c n t nl w m)) w) _ (view (erase c n) n (partAt c n) erase-wf)
+      (subst (λ (x : Parts). wellFormed x ≡ true) (sym (back c n t nl w m)) w) _ (view (erase c n) n (partAt c n) erase-wf)
       ∙ ap accepted (back c n t nl w m)
 
   again-reached : Reachable (erase c n) → Reachable c
@@ -165,11 +165,11 @@ module _ (c : Collector) (n : ℕ) (t : Typed c) (nl : n < 64) (w : wellFormed c
         calls = record { index = n; content = partAt c n } ∷ r .calls;
         bytes = (bytes-take (getD (c .marks) n 0 - 1) (drop (16 * n) (c .bytes)) (bytes-drop (16 * n) (c .bytes) (t .small)), r .bytes);
         made =
-            ap (λ (x : Collector). recordOf x (taking x n (partAt c n))) (r .made)
+            ap (λ (x : Parts). recordOf x (taking x n (partAt c n))) (r .made)
             ∙ ap (recordOf (erase c n)) again;
       }
 
-reach : (n : ℕ) → n ≤ 64 → (c : Collector) → Typed c → wellFormed c ≡ true → ((j : ℕ) → n ≤ j → j < 64 → getD (c .marks) j 0 ≡ 0) → Reachable c
+reach : (n : ℕ) → n ≤ 64 → (c : Parts) → Typed c → wellFormed c ≡ true → ((j : ℕ) → n ≤ j → j < 64 → getD (c .marks) j 0 ≡ 0) → Reachable c
 unfolding made
 reach zero h c t w f =
     record {
@@ -197,8 +197,8 @@ reach (suc n) h c t w f =
 
 -- well-formed exactly when reachable
 
-pub wf-reachable : (c : Collector) → Typed c → wellFormed c ≡ true → Reachable c
+pub wf-reachable : (c : Parts) → Typed c → wellFormed c ≡ true → Reachable c
 wf-reachable c t w = reach 64 (omega arith) c t w (λ j a b. absurd (omega arith))
 
-pub reachable-wf : (c : Collector) → Reachable c → wellFormed c ≡ true
-reachable-wf c r = subst (λ (x : Collector). wellFormed x ≡ true) (r .made) (history (r .calls) (r .bytes) .wf)
+pub reachable-wf : (c : Parts) → Reachable c → wellFormed c ≡ true
+reachable-wf c r = subst (λ (x : Parts). wellFormed x ≡ true) (r .made) (history (r .calls) (r .bytes) .wf)

@@ -8,7 +8,7 @@ use lib.ListN.{length, getD, length-set, length-replicate}
 use lib.Seq.{length-paste}
 use lib.Dec.{ltb, eqb}
 use borrow.Author.Tests.{eq-eqb, ltb-true, ltb-false, eqb-true, eqb-false}
-use Rattle.collector.specs.declared.Collector.{Collector}
+use Rattle.collector.specs.Parts.{Parts}
 use Rattle.base.specs.Choice.{if_then_else_}
 use Rattle.base.specs.Field.{Bytes}
 use Rattle.base.specs.Outcome.{Outcome, accepted, refused}
@@ -18,18 +18,18 @@ use Rattle.collector.specs.Histories.{Typed}
 use Rattle.collector.proofs.Basic.{both-left, both-right, both-true, all-of, all-at, true-not-false, MarksOk, Zeros, Tells, marks-fact, fact-marks, bytes-fact, fact-bytes, low-fits}
 use Rattle.collector.proofs.Parts.{answer-length, answer-at, answer-is}
 
-abbrev pub TellsOf : List ℕ → Collector → Type 0
+abbrev pub TellsOf : List ℕ → Parts → Type 0
 TellsOf l c = Tells l (c .bytes) (c .marks)
 
 -- well-formed: the unheard bytes are zero, and some list explains
 
-pub wf-marks : (c : Collector) → wellFormed c ≡ true → MarksOk (c .marks) (leastTo (c .marks) 64)
+pub wf-marks : (c : Parts) → wellFormed c ≡ true → MarksOk (c .marks) (leastTo (c .marks) 64)
 wf-marks c w = marks-fact (c .marks) (both-left _ (bytesFit (c .bytes) (c .marks)) w)
 
-pub wf-zeros : (c : Collector) → wellFormed c ≡ true → Zeros (c .bytes) (c .marks)
+pub wf-zeros : (c : Parts) → wellFormed c ≡ true → Zeros (c .bytes) (c .marks)
 wf-zeros c w = bytes-fact (c .bytes) (c .marks) (both-right (marksFit (c .marks)) _ w)
 
-pub wf-of : (c : Collector) (l : List ℕ) → TellsOf l c → Zeros (c .bytes) (c .marks) → wellFormed c ≡ true
+pub wf-of : (c : Parts) (l : List ℕ) → TellsOf l c → Zeros (c .bytes) (c .marks) → wellFormed c ≡ true
 wf-of c l t z =
     both-true (marksFit (c .marks)) (bytesFit (c .bytes) (c .marks)) (fact-marks (c .marks) (low-fits (c .marks) (length l) (t .marks)))
     (fact-bytes (c .bytes) (c .marks) z)
@@ -55,7 +55,7 @@ fresh-wf = wf-of fresh [] (fresh-tells [] (omega arith)) fresh-zeros
 
 -- a repeat
 
-module _ (c : Collector) (i : ℕ) (d l : List ℕ) (t : TellsOf l c) (il : i < 64) (nz : getD (c .marks) i 0 ≡ 0 → ⊥) where
+module _ (c : Parts) (i : ℕ) (d l : List ℕ) (t : TellsOf l c) (il : i < 64) (nz : getD (c .marks) i 0 ≡ 0 → ⊥) where
   pub same-answer : hasPart c i d ≡ true → answerOf l i ≡ d
   unfolding hasPart standsAt
   same-answer s =
@@ -79,7 +79,7 @@ module _ (c : Collector) (i : ℕ) (d l : List ℕ) (t : TellsOf l c) (il : i < 
 
 -- a part put in
 
-pub put-typed : (c : Collector) (i : ℕ) (d : List ℕ) → Typed c → Bytes d → i < 64 → length d ≤ 16 → Typed (put c i d)
+pub put-typed : (c : Parts) (i : ℕ) (d : List ℕ) → Typed c → Bytes d → i < 64 → length d ≤ 16 → Typed (put c i d)
 put-typed c i d t b il dl =
     let e : length (c .bytes) ≡ 1024 = t .bytes in
     record {
@@ -90,7 +90,7 @@ put-typed c i d t b il dl =
 
 -- an answer to a well-formed collector, by cases
 
-pub data StepView (c : Collector) (i : ℕ) (d : List ℕ) : Outcome Collector → Type 0 where
+pub data StepView (c : Parts) (i : ℕ) (d : List ℕ) : Outcome Parts → Type 0 where
   bad-index : 63 < i → StepView c i d (refused 7 [])
   too-long : i < 64 → 16 < length d → StepView c i d (refused 2 [])
   repeats : i < 64 → length d ≤ 16 → (getD (c .marks) i 0 ≡ 0 → ⊥) → hasPart c i d ≡ true → StepView c i d (accepted c)
@@ -98,7 +98,7 @@ pub data StepView (c : Collector) (i : ℕ) (d : List ℕ) : Outcome Collector �
   joins : i < 64 → length d ≤ 16 → getD (c .marks) i 0 ≡ 0 → wellFormed (put c i d) ≡ true → StepView c i d (accepted (put c i d))
   clashes : i < 64 → length d ≤ 16 → getD (c .marks) i 0 ≡ 0 → wellFormed (put c i d) ≡ false → StepView c i d (refused 12 [])
 
-module _ (c : Collector) (i : ℕ) (d : List ℕ) where
+module _ (c : Parts) (i : ℕ) (d : List ℕ) where
   view-heard : i < 64 → length d ≤ 16 → (getD (c .marks) i 0 ≡ 0 → ⊥) → (b : Bool) → hasPart c i d ≡ b → StepView c i d (if b then accepted c else refused 12 [])
   view-heard il dl nz true e = repeats il dl nz e
   view-heard il dl nz false e = differs il dl nz e

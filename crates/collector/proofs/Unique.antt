@@ -7,13 +7,13 @@ use Rattle.collector.proofs.Said.{status-one}
 use Rattle.base.proofs.Walked.{UniqueWalk, facts}
 
 pub answer-in-unique : Unique p.answer_in.Kinds.ps p.answer_in.Kinds.r p.answer_in.Reads.Asked p.answer_in.Reads.Learnt
-answer-in-unique κs a ok z z′ w w′ q q′ = (beside (λ verdict left. verdict) q q′, beside (λ verdict left. (left .bytes, (left .marks, (tt, (tt, tt))))) q q′)
+answer-in-unique κs a ok z z′ w w′ q q′ = (beside (λ verdict left. verdict) q q′, beside (λ verdict left. (left .bytes, (left .marks, (left .known, (tt, (tt, tt)))))) q q′)
 
 pub status-in-unique : Unique p.status_in.Kinds.ps p.status_in.Kinds.r p.status_in.Reads.Asked p.status_in.Reads.Learnt
 status-in-unique κs a ok z z′ w w′ q q′ = (status-one z z′ (both q q′), refl)
 
 pub list-in-unique : Unique p.list_in.Kinds.ps p.list_in.Kinds.r p.list_in.Reads.Asked p.list_in.Reads.Learnt
-list-in-unique κs a ok z z′ w w′ q q′ = writer 2 q q′
+list-in-unique κs a ok z z′ w w′ q q′ = writer 3 q q′
 
 pub answer-lent-unique : UniqueWalk p.answer_lent.ended (λ M 𝓤 H A mem run. p.answer_lent.clauses 𝓤 H A mem run)
 answer-lent-unique M 𝓤 H A mem run κs a g z z′ w w′ = facts 𝓤 (λ q q′. (beside (λ verdict left. verdict) q q′, beside (λ verdict left. (left, (tt, (tt, tt)))) q q′))

@@ -1,4 +1,4 @@
--- The collector. Document 01: "It holds up to 64 parts with their lengths; bytes not heard are zero. The numbers 0x3F, 16 and 1,024 belong to the collector".
+-- What a collector heard, its parts. Document 01: "It holds up to 64 parts with their lengths; bytes not heard are zero. The numbers 0x3F, 16 and 1,024 belong to the collector".
 use Prim.Native.Nat.{ℕ, zero, suc, _+_, _-_, _*_, _/_, _%_, min, max}
 use mathlib.Core.Bool.{Bool, true, false}
 use mathlib.Core.List.{List, [], _∷_}
@@ -6,7 +6,7 @@ use lib.ListN.{length, take, drop, getD, set, replicate}
 use lib.Seq.{paste}
 use Rattle.base.specs.Choice.{if_then_else_, _<?_, _=?_}
 use Rattle.base.specs.Outcome.{Outcome, accepted, refused, _>>=_}
-use Rattle.collector.specs.declared.Collector.{Collector}
+use Rattle.collector.specs.Parts.{Parts}
 use Rattle.collector.specs.declared.Status.{Status}
 use Rattle.collector.specs.declared.Status.the-variants.{Complete, Missing, NoForm}
 
@@ -47,12 +47,12 @@ allBelow (suc n) test = allBelow n test and test n
 abbrev pub answerOf : List ℕ → ℕ → List ℕ
 answerOf list i = take partLength (drop (partLength * i) list)
 
--- the collector that is held in two arrays
-abbrev pub held : List ℕ → List ℕ → Collector
+-- the parts that are held in two arrays
+abbrev pub held : List ℕ → List ℕ → Parts
 held bytes marks = record { bytes = bytes; marks = marks }
 
 -- nothing heard
-abbrev pub fresh : Collector
+abbrev pub fresh : Parts
 fresh = held (replicate capacity 0) (replicate parts 0)
 
 -- A part's mark m is 0 where it was not heard, and one more than its length where it was.
@@ -82,8 +82,8 @@ marksFit marks = allBelow parts (λ i. markFits (leastTo marks parts) i (getD ma
 unfoldable pub bytesFit : List ℕ → List ℕ → Bool
 bytesFit bytes marks = allBelow capacity (λ k. byteFits (getD marks (k / partLength) 0) (k % partLength) (getD bytes k 0))
 
--- the test that every entry runs: it passes exactly for the collectors that calls make from a fresh one (proofs/Demand.antt)
-abbrev pub wellFormed : Collector → Bool
+-- it passes exactly for the parts that calls make from fresh ones (proofs/Demand.antt)
+abbrev pub wellFormed : Parts → Bool
 wellFormed c = marksFit (c .marks) and bytesFit (c .bytes) (c .marks)
 
 -- the bytes from place n on begin with the part
@@ -91,22 +91,22 @@ unfoldable pub standsAt : List ℕ → ℕ → List ℕ → Bool
 standsAt bytes n part = allBelow (length part) (λ j. getD bytes (n + j) 0 =? getD part j 0)
 
 -- this part was heard at index i
-unfoldable pub hasPart : Collector → ℕ → List ℕ → Bool
+unfoldable pub hasPart : Parts → ℕ → List ℕ → Bool
 hasPart c i part = (getD (c .marks) i 0 =? suc (length part)) and standsAt (c .bytes) (partLength * i) part
 
 -- the part at its place, and its mark
-abbrev pub put : Collector → ℕ → List ℕ → Collector
+abbrev pub put : Parts → ℕ → List ℕ → Parts
 put c i part = held (paste (c .bytes) (partLength * i) part (length part)) (set (c .marks) i (suc (length part)))
 
--- a part of legal index and length: a new one must leave the collector well-formed; "An equal repeat is accepted and changes nothing"
-abbrev pub joining : Collector → ℕ → List ℕ → Outcome Collector
+-- a part of legal index and length: a new one must leave them well-formed; "An equal repeat is accepted and changes nothing"
+abbrev pub joining : Parts → ℕ → List ℕ → Outcome Parts
 joining c i part =
     if getD (c .marks) i 0 =? 0
     then if wellFormed (put c i part) then accepted (put c i part) else refused 12 []
     else if hasPart c i part then accepted c else refused 12 []
 
--- the collector after an answer; "Collector: 9, then 7, then 2, then 12"
-unfoldable pub taking : Collector → ℕ → List ℕ → Outcome Collector
+-- the parts after an answer; "Collector: 9, then 7, then 2, then 12"
+unfoldable pub taking : Parts → ℕ → List ℕ → Outcome Parts
 taking c i part =
     if wellFormed c
     then if lastIndex <? i then refused 7 [] else if partLength <? length part then refused 2 [] else joining c i part
@@ -122,16 +122,16 @@ abbrev pub completeBy : List ℕ → Bool
 completeBy marks = (lowest marks parts =? parts) or ((0 <? lowest marks parts) and (getD marks (lowest marks parts - 1) 0 <? suc partLength))
 
 -- by its marks alone
-unfoldable pub isComplete : Collector → Bool
+unfoldable pub isComplete : Parts → Bool
 isComplete c = completeBy (c .marks)
 
--- where a collector stands: complete, with its list's length, or not, with the lowest unheard index
+-- where they stand: complete, with its list's length, or not, with the lowest unheard index
 pub data Standing : Type 0 where
   complete : ℕ → Standing
   missing : ℕ → Standing
 
 -- 9 for "a collector that no calls make from a fresh one"
-abbrev pub standingOf : Collector → Outcome Standing
+abbrev pub standingOf : Parts → Outcome Standing
 standingOf c =
     if wellFormed c
     then accepted (if isComplete c then complete (leastTo (c .marks) parts) else missing (lowest (c .marks) parts))
@@ -149,7 +149,7 @@ listBy bytes (complete n) = accepted (take n bytes)
 listBy bytes (missing i) = refused 13 (i ∷ [])
 
 -- "asked for bytes ..: 9, then 13, then 11" (11 is the writer's)
-abbrev pub listOf : Collector → Outcome (List ℕ)
+abbrev pub listOf : Parts → Outcome (List ℕ)
 listOf c = do
   standing ← standingOf c
   listBy (c .bytes) standing

@@ -10,7 +10,7 @@ use Rattle.base.specs.Field.{Bytes}
 use Rattle.base.specs.Outcome.{Outcome, accepted, isAccepted}
 use Rattle.base.specs.Verdict.{recordOf}
 use Rattle.collector.specs.Collector.{Standing, complete, missing, lastIndex, partLength, capacity, answerOf, fresh, taking, standingOf, listOf}
-use Rattle.collector.specs.declared.Collector.{Collector}
+use Rattle.collector.specs.Parts.{Parts}
 
 -- an answer with its index, of any size
 pub record Call : Type 0 where
@@ -120,6 +120,6 @@ pub record IsList (list : List ℕ) : Type 0 where
 abbrev pub controllers : Controllers (List ℕ)
 controllers = record { Suits = IsList; list = λ list. list; Answers = λ list i content. (i ≤ lastIndex) × (answerOf list i ≡ content); Legal = λ content. length content ≤ partLength }
 
--- the definitions that its promises cite
-abbrev pub collecting : Keeper Collector
+-- its parts, by document 01's definitions; the collector, with what it stores, is `storing` (Stored.antt)
+abbrev pub collecting : Keeper Parts
 collecting = record { fresh = fresh; taking = taking; standing = standingOf; list = listOf }

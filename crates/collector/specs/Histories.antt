@@ -1,4 +1,4 @@
--- Histories of the collector: any calls, the latest first.
+-- Histories of a collector's parts: any calls, the latest first.
 use mathlib.Core.List.{List, [], _∷_}
 use mathlib.Core.Logic.{_⊎_}
 use mathlib.Core.Path.{_≡_}
@@ -6,10 +6,10 @@ use lib.ListN.{length}
 use Rattle.base.specs.Field.{Bytes}
 use Rattle.collector.specs.Collector.{capacity, parts}
 use Rattle.collector.specs.Demand.{Call, AllBytes, collecting, made, taken}
-use Rattle.collector.specs.declared.Collector.{Collector}
+use Rattle.collector.specs.Parts.{Parts}
 
--- the collector that the calls make from a fresh one
-abbrev pub after : List Call → Collector
+-- the parts that the calls make from fresh ones
+abbrev pub after : List Call → Parts
 after calls = made collecting calls
 
 -- those of the calls that were accepted
@@ -21,14 +21,14 @@ abbrev pub Among : Call → List Call → Type 0
 Among call [] = ⊥
 Among call (other ∷ earlier) = (other ≡ call) ⊎ Among call earlier
 
--- some calls make this collector from a fresh one
-pub record Reachable (c : Collector) : Type 0 where
+-- some calls make these parts from fresh ones
+pub record Reachable (c : Parts) : Type 0 where
   pub calls : List Call
   pub bytes : AllBytes calls
   pub made : after calls ≡ c
 
--- a collector of the machine: its arrays have their lengths, its bytes are bytes
-pub record Typed (c : Collector) : Type 0 where
+-- parts of the machine: their arrays have their lengths, their bytes are bytes
+pub record Typed (c : Parts) : Type 0 where
   pub bytes : length (c .bytes) ≡ capacity
   pub marks : length (c .marks) ≡ parts
   pub small : Bytes (c .bytes)

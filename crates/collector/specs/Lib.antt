@@ -1,4 +1,6 @@
 pub mod Collector
 pub mod Demand
 pub mod Histories
+pub mod Parts
 pub mod Shape
+pub mod Stored

@@ -1,5 +1,5 @@
 -- What the private code computes: the marks' shape, by largest bytes; a judgement of an answer.
-use Prim.Native.Nat.{ℕ, zero, suc, _+_, _-_, _*_, _≤_, max}
+use Prim.Native.Nat.{ℕ, zero, suc, _+_, _-_, _*_, _≤_, _<_, max}
 use mathlib.Core.Bool.{Bool, true, false}
 use mathlib.Core.List.{List}
 use mathlib.Core.Path.{_≡_}
@@ -7,9 +7,9 @@ use lib.ListN.{length, getD}
 use Rattle.base.specs.Choice.{if_then_else_, _<?_, _=?_}
 use Rattle.base.specs.Outcome.{accepted}
 use Rattle.base.specs.Refusal.{refusal}
-use Rattle.base.specs.declared.verdict.Verdict.{Verdict}
-use Rattle.base.specs.declared.verdict.Verdict.the-variants.{Accepted, Refused}
-use Rattle.collector.specs.Collector.{_or_, lastIndex, partLength, parts, put, taking}
+use Rattle.collector.specs.Collector.{_or_, lastIndex, partLength, parts, put, taking, lowest}
+use Rattle.collector.specs.Parts.{Parts}
+use Rattle.collector.specs.Stored.{partsOf, knowing, takingStored}
 use Rattle.collector.specs.declared.Collector.{Collector}
 use Rattle.collector.specs.declared.Judgement.{Judgement}
 use Rattle.collector.specs.declared.Judgement.the-variants.{Store, Keep, Refuse}
@@ -77,14 +77,18 @@ pub record ShapeFits (marks : List ℕ) (s : Shape) : Type 0 where
 abbrev pub shapeWith : Shape → ℕ → ℕ → Shape
 shapeWith s i m = record { top = max (s .top) (filled (i + 1) m); gap = max (s .gap) (partly (parts - i) m); most = max (s .most) m; free = s .free }
 
+-- every index below n was heard
+abbrev pub HeardBelow : List ℕ → ℕ → Type 0
+HeardBelow marks n = (i : ℕ) → i < n → getD marks i 0 ≡ 0 → ⊥
+
 -- what is to be done with an answer
-abbrev pub Judged : Collector → ℕ → List ℕ → Judgement → Type 0
+abbrev pub Judged : Parts → ℕ → List ℕ → Judgement → Type 0
 Judged c i part Store = (taking c i part ≡ accepted (put c i part)) × ((i ≤ lastIndex) × (length part ≤ partLength))
 Judged c i part Keep = taking c i part ≡ accepted c
 Judged c i part (Refuse r) = taking c i part ≡ refusal r
 
--- what is said of it
-abbrev pub verdictFor : Judgement → Verdict
-verdictFor Store = Accepted
-verdictFor Keep = Accepted
-verdictFor (Refuse r) = Refused r
+-- the same of a collector, which then knows what a search would find
+abbrev pub JudgedStored : Collector → ℕ → List ℕ → Judgement → Type 0
+JudgedStored k i part Store = (takingStored k i part ≡ accepted (knowing (put (partsOf k) i part))) × ((getD (k .known) 0 0 ≡ lowest (k .marks) parts) × ((i ≤ lastIndex) × (length part ≤ partLength)))
+JudgedStored k i part Keep = takingStored k i part ≡ accepted k
+JudgedStored k i part (Refuse r) = takingStored k i part ≡ refusal r

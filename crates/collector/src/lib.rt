@@ -1,33 +1,39 @@
-// Joins a list that arrives a part at a time: document 01, "The collector". Its core works on lent arrays; what takes a
-// collector by value or lent is thin over it.
+// Joins a list that arrives a part at a time: document 01, "The collector"; document 02, C-15. Its core works on slices, its
+// entries on lent arrays; what takes a collector by value or lent is thin over them.
 ghost use Prim.Native.Nat.{_+_, _*_, _≤_};
+ghost use mathlib.Core.Bool.{true};
 ghost use mathlib.Core.Path.{_≡_};
-ghost use lib.ListN.{length};
+ghost use lib.ListN.{length, getD};
 ghost use lib.Seq.{paste};
 ghost use Rattle.base.specs.Verdict.{Gives};
 ghost use Rattle.base.specs.Written.{Writes};
-ghost use Rattle.collector.specs.Collector.{capacity, partLength, parts, fresh, held, listOf, saidStatus, standingOf, standsAt, taking};
-ghost use Rattle.collector.specs.Shape.{Judged, verdictFor};
-use crate::shape::complete;
+ghost use Rattle.collector.specs.Collector.{capacity, held, lastIndex, lowest, partLength, parts, put, saidStatus, standsAt, wellFormed};
+ghost use Rattle.collector.specs.Shape.{Judged, JudgedStored, shapeOf};
+ghost use Rattle.collector.specs.Stored.{freshStored, knowing, knownLength, collectorOf, listStored, standingStored, takingStored};
+use crate::known::ended;
+use crate::known::unheard_from;
+use crate::shape::Shape;
 use crate::shape::length_by;
-use crate::shape::lowest_by;
 use crate::shape::marks_fit;
 use crate::shape::shape_of;
 use crate::shape::shape_with;
-use crate::shape::well_formed;
+use crate::shape::well_stored;
 use base::refusal::Refusal;
 use base::verdict::Verdict;
 use base::written::Written;
 use base::written::place;
 
+mod known;
 mod shape;
 
 // The parts that were heard stand at their places among the bytes, zeros elsewhere. A part's mark is 0 where it was
-// not heard, and one more than its length where it was.
+// not heard, and one more than its length where it was. Known is what a search would find: the lowest unheard index, PARTS
+// where there is none, then 1 where the list is complete.
 #[repr(C)]
 pub struct Collector {
     pub bytes: [u8; Collector::CAPACITY],
     pub marks: [u8; Collector::PARTS],
+    pub known: [u8; Collector::KNOWN],
 }
 
 pub struct Answered {
@@ -50,12 +56,12 @@ enum Judgement {
 }
 
 // An array by value has its length, one behind a reference has it by a copy, which the compiler drops.
-fn all_bytes(bytes: [u8; Collector::CAPACITY])
-    ensures { λ _. ⌜ length bytes ≡ capacity ⌝ }
-{}
-
-fn all_marks(marks: [u8; Collector::PARTS])
-    ensures { λ _. ⌜ length marks ≡ parts ⌝ }
+fn lengths(
+    bytes: [u8; Collector::CAPACITY],
+    marks: [u8; Collector::PARTS],
+    known: [u8; Collector::KNOWN],
+)
+    ensures { λ _. ⌜ (length bytes ≡ capacity) × ((length marks ≡ parts) × (length known ≡ knownLength)) ⌝ }
 {}
 
 // Where a part begins.
@@ -65,8 +71,8 @@ fn start(index: u8) -> usize
     Collector::PART * index as usize
 }
 
-fn stands_at(bytes: &[u8; Collector::CAPACITY], at: usize, part: &[u8]) -> bool
-    requires { ⌜ at + length (now part) ≤ capacity ⌝ }
+fn stands_at(bytes: &[u8], at: usize, part: &[u8]) -> bool
+    requires { ⌜ at + length (now part) ≤ length (now bytes) ⌝ }
     ensures { λ r. ⌜ r ≡ standsAt (now (bytes .entry)) at (now (part .entry)) ⌝ }
 {
     let mut j: usize = 0;
@@ -79,21 +85,12 @@ fn stands_at(bytes: &[u8; Collector::CAPACITY], at: usize, part: &[u8]) -> bool
     true
 }
 
-// Reads only: the arrays of a refused answer are never written.
-fn judge<'a>(
-    bytes: &'a [u8; Collector::CAPACITY],
-    marks: &'a [u8; Collector::PARTS],
-    index: u8,
-    response: &[u8],
-) -> Judgement
+// Of parts that passed the test.
+fn judge_parts(bytes: &[u8], marks: &[u8], shape: Shape, index: u8, response: &[u8]) -> Judgement
+    requires { ⌜ (length (now bytes) ≡ capacity) × (length (now marks) ≡ parts) ⌝ }
+    requires { ⌜ (shape ≡ shapeOf (now marks)) × (wellFormed (held (now bytes) (now marks)) ≡ true) ⌝ }
     ensures { λ r. ⌜ Judged (held (now (bytes .entry)) (now (marks .entry))) index (now (response .entry)) r ⌝ }
 {
-    all_bytes(*bytes);
-    all_marks(*marks);
-    let shape = shape_of(marks);
-    if !well_formed(bytes, marks, shape) {
-        return Judgement::Refuse(Refusal::NoForm);
-    }
     if Collector::LAST_INDEX < index {
         return Judgement::Refuse(Refusal::BadIndex);
     }
@@ -117,21 +114,22 @@ fn judge<'a>(
     Judgement::Refuse(Refusal::Disagrees)
 }
 
-fn verdict_of(judgement: Judgement) -> Verdict
-    ensures { λ r. ⌜ r ≡ verdictFor judgement ⌝ }
+// Reads only: the arrays of a refused answer are never written.
+fn judge(bytes: &[u8], marks: &[u8], known: &[u8], index: u8, response: &[u8]) -> Judgement
+    requires { ⌜ (length (now bytes) ≡ capacity) × ((length (now marks) ≡ parts) × (length (now known) ≡ knownLength)) ⌝ }
+    ensures { λ r. ⌜ JudgedStored (collectorOf (now (bytes .entry)) (now (marks .entry)) (now (known .entry))) index (now (response .entry)) r ⌝ }
 {
-    match judgement {
-        Judgement::Store => Verdict::Accepted,
-        Judgement::Keep => Verdict::Accepted,
-        Judgement::Refuse(refusal) => Verdict::Refused(refusal),
+    let shape = shape_of(marks);
+    if !well_stored(bytes, marks, known, shape) {
+        return Judgement::Refuse(Refusal::NoForm);
     }
+    judge_parts(bytes, marks, shape, index, response)
 }
 
-fn put(bytes: &mut [u8; Collector::CAPACITY], at: usize, part: &[u8])
-    requires { ⌜ at + length (now part) ≤ capacity ⌝ }
+fn put(bytes: &mut [u8], at: usize, part: &[u8])
+    requires { ⌜ at + length (now part) ≤ length (now bytes) ⌝ }
     ensures { λ r. ⌜ now (bytes .exit) ≡ paste (now (bytes .entry)) at (now (part .entry)) (length (now (part .entry))) ⌝ }
 {
-    all_bytes(*bytes);
     let mut j: usize = 0;
     while j < part.len() {
         bytes[at + j] = part[j];
@@ -139,19 +137,33 @@ fn put(bytes: &mut [u8; Collector::CAPACITY], at: usize, part: &[u8])
     }
 }
 
+// A part that is new, and what a search would find now.
+fn store(bytes: &mut [u8], marks: &mut [u8], known: &mut [u8], index: u8, response: &[u8])
+    requires { ⌜ (length (now bytes) ≡ capacity) × ((length (now marks) ≡ parts) × (length (now known) ≡ knownLength)) ⌝ }
+    requires { ⌜ (getD (now known) 0 0 ≡ lowest (now marks) parts) × ((index ≤ lastIndex) × (length (now response) ≤ partLength)) ⌝ }
+    ensures { λ r. ⌜ collectorOf (now (bytes .exit)) (now (marks .exit)) (now (known .exit)) ≡ knowing (put (held (now (bytes .entry)) (now (marks .entry))) index (now (response .entry))) ⌝ }
+{
+    marks[index as usize] = (response.len() + 1) as u8;
+    put(bytes, start(index), response);
+    let low = unheard_from(marks, known[0]);
+    known[0] = low;
+    known[1] = ended(marks, low) as u8;
+}
+
 pub fn answer_in(
     bytes: &mut [u8; Collector::CAPACITY],
     marks: &mut [u8; Collector::PARTS],
+    known: &mut [u8; Collector::KNOWN],
     index: u8,
     response: &[u8],
 ) -> Verdict
-    ensures { λ r. ⌜ Gives (taking (held (now (bytes .entry)) (now (marks .entry))) index (now (response .entry))) (held (now (bytes .entry)) (now (marks .entry))) r (held (now (bytes .exit)) (now (marks .exit))) ⌝ }
+    ensures { λ r. ⌜ Gives (takingStored (collectorOf (now (bytes .entry)) (now (marks .entry)) (now (known .entry))) index (now (response .entry))) (collectorOf (now (bytes .entry)) (now (marks .entry)) (now (known .entry))) r (collectorOf (now (bytes .exit)) (now (marks .exit)) (now (known .exit))) ⌝ }
 {
-    let judgement = judge(bytes, marks, index, response);
+    lengths(*bytes, *marks, *known);
+    let judgement = judge(bytes, marks, known, index, response);
     match judgement {
         Judgement::Store => {
-            marks[index as usize] = (response.len() + 1) as u8;
-            put(bytes, start(index), response);
+            store(bytes, marks, known, index, response);
             Verdict::Accepted
         }
         Judgement::Keep => Verdict::Accepted,
@@ -159,28 +171,35 @@ pub fn answer_in(
     }
 }
 
-pub fn status_in(bytes: &[u8; Collector::CAPACITY], marks: &[u8; Collector::PARTS]) -> Status
-    ensures { λ r. ⌜ saidStatus r ≡ standingOf (held (now (bytes .entry)) (now (marks .entry))) ⌝ }
+// What is stored answers, behind the test.
+pub fn status_in(
+    bytes: &[u8; Collector::CAPACITY],
+    marks: &[u8; Collector::PARTS],
+    known: &[u8; Collector::KNOWN],
+) -> Status
+    ensures { λ r. ⌜ saidStatus r ≡ standingStored (collectorOf (now (bytes .entry)) (now (marks .entry)) (now (known .entry))) ⌝ }
 {
+    lengths(*bytes, *marks, *known);
     let shape = shape_of(marks);
-    if !well_formed(bytes, marks, shape) {
+    if !well_stored(bytes, marks, known, shape) {
         return Status::NoForm;
     }
-    if complete(shape) {
+    if known[1] == 1 {
         return Status::Complete(length_by(marks, shape));
     }
-    Status::Missing(lowest_by(shape))
+    Status::Missing(known[0])
 }
 
 // The list, once it is complete, at the start of out.
 pub fn list_in(
     bytes: &[u8; Collector::CAPACITY],
     marks: &[u8; Collector::PARTS],
+    known: &[u8; Collector::KNOWN],
     out: &mut [u8],
 ) -> Written
-    ensures { λ r. ⌜ Writes (listOf (held (now (bytes .entry)) (now (marks .entry)))) r (now (out .entry)) (now (out .exit)) ⌝ }
+    ensures { λ r. ⌜ Writes (listStored (collectorOf (now (bytes .entry)) (now (marks .entry)) (now (known .entry)))) r (now (out .entry)) (now (out .exit)) ⌝ }
 {
-    let status = status_in(bytes, marks);
+    let status = status_in(bytes, marks, known);
     match status {
         Status::Complete(length) => {
             let all = &bytes[..];
@@ -193,7 +212,7 @@ pub fn list_in(
 
 // A lent collector takes an answer by the step by value.
 pub fn answer_lent(collector: &mut Collector, index: u8, response: &[u8]) -> Verdict
-    ensures { λ r. ⌜ Gives (taking (now (collector .entry)) index (now (response .entry))) (now (collector .entry)) r (now (collector .exit)) ⌝ }
+    ensures { λ r. ⌜ Gives (takingStored (now (collector .entry)) index (now (response .entry))) (now (collector .entry)) r (now (collector .exit)) ⌝ }
 {
     let answered = Collector::answer(*collector, index, response);
     *collector = answered.collector;
@@ -209,46 +228,58 @@ impl Collector {
 
     pub const PARTS: usize = Collector::CAPACITY / Collector::PART;
 
+    pub const KNOWN: usize = 2;
+
     pub fn fresh() -> Self
-        ensures { λ r. ⌜ r ≡ fresh ⌝ }
+        ensures { λ r. ⌜ r ≡ freshStored ⌝ }
     {
         Collector {
             bytes: [0; Collector::CAPACITY],
             marks: [0; Collector::PARTS],
+            known: [0; Collector::KNOWN],
         }
     }
 
-    // The verdict is found before anything is stored: so a collector that is lent whole is copied in and back, and not once more.
+    // A refused one is given back as it came: where it is lent whole, nothing is copied back.
     pub fn answer(self, index: u8, response: &[u8]) -> Answered
-        ensures { λ r. ⌜ Gives (taking self index (now (response .entry))) self (r .verdict) (r .collector) ⌝ }
+        ensures { λ r. ⌜ Gives (takingStored self index (now (response .entry))) self (r .verdict) (r .collector) ⌝ }
     {
         let mut collector = self;
-        let judgement = judge(&collector.bytes, &collector.marks, index, response);
-        let verdict = verdict_of(judgement);
-        match judgement {
-            Judgement::Store => {
-                collector.marks[index as usize] = (response.len() + 1) as u8;
-                put(&mut collector.bytes, start(index), response);
-            }
-            Judgement::Keep => {}
-            Judgement::Refuse(_) => {}
+        let mut marks = collector.marks;
+        let mut known = collector.known;
+        let verdict = answer_in(
+            &mut collector.bytes,
+            &mut marks,
+            &mut known,
+            index,
+            response,
+        );
+        let Verdict::Refused(_) = verdict else {
+            collector.marks = marks;
+            collector.known = known;
+            return Answered { verdict, collector };
+        };
+        Answered {
+            verdict,
+            collector: self,
         }
-        Answered { verdict, collector }
     }
 
     pub fn status(self) -> Status
-        ensures { λ r. ⌜ saidStatus r ≡ standingOf self ⌝ }
+        ensures { λ r. ⌜ saidStatus r ≡ standingStored self ⌝ }
     {
         let bytes = self.bytes;
         let marks = self.marks;
-        status_in(&bytes, &marks)
+        let known = self.known;
+        status_in(&bytes, &marks, &known)
     }
 
     pub fn list(self, out: &mut [u8]) -> Written
-        ensures { λ r. ⌜ Writes (listOf self) r (now (out .entry)) (now (out .exit)) ⌝ }
+        ensures { λ r. ⌜ Writes (listStored self) r (now (out .entry)) (now (out .exit)) ⌝ }
     {
         let bytes = self.bytes;
         let marks = self.marks;
-        list_in(&bytes, &marks, out)
+        let known = self.known;
+        list_in(&bytes, &marks, &known, out)
     }
 }

@@ -1,12 +1,14 @@
 // The test of well-formedness in one pass over the marks: four largest bytes, which the compiler vectorises.
 ghost use Prim.Native.Nat.{_+_, _-_, _*_, _<_, _≤_, max};
 ghost use mathlib.Core.Path.{_≡_};
+ghost use lib.ListN.{length};
 ghost use Rattle.collector.specs.Collector.{bytesFit, capacity, held, leastTo, partLength, parts, wellFormed};
 ghost use Rattle.collector.specs.Shape.{ShapeFits, completeShape, filled, fits, free, holes, most, partly, shapeOf, shapeWith};
+ghost use Rattle.collector.specs.Stored.{knownLength, collectorOf, wellStored};
 use crate::Collector;
 
 // The mark of a full part.
-const FULL: u8 = Collector::PART as u8 + 1;
+pub(crate) const FULL: u8 = Collector::PART as u8 + 1;
 
 // Of the indexes i: the largest i + 1 whose part is not empty, the largest PARTS - i whose part is heard and not full,
 // the largest mark, the largest PARTS - i that is not heard.
@@ -50,7 +52,8 @@ fn free(j: u8, m: u8) -> u8
     if 0 < m { 0 } else { j }
 }
 
-pub(crate) fn shape_of(marks: &[u8; Collector::PARTS]) -> Shape
+pub(crate) fn shape_of(marks: &[u8]) -> Shape
+    requires { ⌜ length (now marks) ≡ parts ⌝ }
     ensures { λ r. ⌜ r ≡ shapeOf (now (marks .entry)) ⌝ }
 {
     let mut top: u8 = 0;
@@ -77,8 +80,8 @@ pub(crate) fn shape_of(marks: &[u8; Collector::PARTS]) -> Shape
 }
 
 // The largest of n bytes from a place on.
-fn most(bytes: &[u8; Collector::CAPACITY], at: usize, n: usize) -> u8
-    requires { ⌜ at + n ≤ capacity ⌝ }
+fn most(bytes: &[u8], at: usize, n: usize) -> u8
+    requires { ⌜ at + n ≤ length (now bytes) ⌝ }
     ensures { λ r. ⌜ r ≡ most (now (bytes .entry)) at n ⌝ }
 {
     let mut acc: u8 = 0;
@@ -90,8 +93,8 @@ fn most(bytes: &[u8; Collector::CAPACITY], at: usize, n: usize) -> u8
     acc
 }
 
-fn hole(bytes: &[u8; Collector::CAPACITY], i: usize, mark: u8) -> u8
-    requires { ⌜ i < parts ⌝ }
+fn hole(bytes: &[u8], i: usize, mark: u8) -> u8
+    requires { ⌜ partLength * i + partLength ≤ length (now bytes) ⌝ }
     ensures { λ r. ⌜ r ≡ free (most (now (bytes .entry)) (partLength * i) partLength) mark ⌝ }
 {
     if mark == 0 {
@@ -101,13 +104,8 @@ fn hole(bytes: &[u8; Collector::CAPACITY], i: usize, mark: u8) -> u8
 }
 
 // The largest byte of the unheard parts.
-fn holes(
-    bytes: &[u8; Collector::CAPACITY],
-    marks: &[u8; Collector::PARTS],
-    from: usize,
-    to: usize,
-) -> u8
-    requires { ⌜ to ≤ parts ⌝ }
+fn holes(bytes: &[u8], marks: &[u8], from: usize, to: usize) -> u8
+    requires { ⌜ (partLength * to ≤ length (now bytes)) × (to ≤ length (now marks)) ⌝ }
     ensures { λ r. ⌜ r ≡ holes (now (bytes .entry)) (now (marks .entry)) from (to - from) ⌝ }
 {
     let mut acc: u8 = 0;
@@ -120,8 +118,9 @@ fn holes(
 }
 
 // The end of the last part that is not empty.
-pub(crate) fn length_by(marks: &[u8; Collector::PARTS], shape: Shape) -> usize
+pub(crate) fn length_by(marks: &[u8], shape: Shape) -> usize
     requires { ⌜ ShapeFits (now marks) shape ⌝ }
+    requires { ⌜ length (now marks) ≡ parts ⌝ }
     ensures { λ r. ⌜ r ≡ leastTo (now (marks .entry)) parts ⌝ }
 {
     let top = wide(shape.top);
@@ -161,12 +160,9 @@ pub(crate) fn shape_with(shape: Shape, i: u8, m: u8) -> Shape
 }
 
 // Behind the list's end all is zero, and in the unheard parts before it. Full parts are not read.
-fn bytes_fit(
-    bytes: &[u8; Collector::CAPACITY],
-    marks: &[u8; Collector::PARTS],
-    shape: Shape,
-) -> bool
+fn bytes_fit(bytes: &[u8], marks: &[u8], shape: Shape) -> bool
     requires { ⌜ ShapeFits (now marks) shape ⌝ }
+    requires { ⌜ (length (now bytes) ≡ capacity) × (length (now marks) ≡ parts) ⌝ }
     ensures { λ r. ⌜ r ≡ bytesFit (now (bytes .entry)) (now (marks .entry)) ⌝ }
 {
     let end = length_by(marks, shape);
@@ -177,12 +173,9 @@ fn bytes_fit(
     holes(bytes, marks, low, wide(shape.top)) == 0
 }
 
-pub(crate) fn well_formed(
-    bytes: &[u8; Collector::CAPACITY],
-    marks: &[u8; Collector::PARTS],
-    shape: Shape,
-) -> bool
+pub(crate) fn well_formed(bytes: &[u8], marks: &[u8], shape: Shape) -> bool
     requires { ⌜ shape ≡ shapeOf (now marks) ⌝ }
+    requires { ⌜ (length (now bytes) ≡ capacity) × (length (now marks) ≡ parts) ⌝ }
     ensures { λ r. ⌜ r ≡ wellFormed (held (now (bytes .entry)) (now (marks .entry))) ⌝ }
 {
     if marks_fit(shape) {
@@ -207,4 +200,19 @@ pub(crate) fn lowest_by(shape: Shape) -> u8
     ensures { λ r. ⌜ r ≡ parts - shape .free ⌝ }
 {
     Collector::LAST_INDEX + 1 - shape.free
+}
+
+// What is stored is what the four maxima say: no second pass.
+pub(crate) fn well_stored(bytes: &[u8], marks: &[u8], known: &[u8], shape: Shape) -> bool
+    requires { ⌜ shape ≡ shapeOf (now marks) ⌝ }
+    requires { ⌜ (length (now bytes) ≡ capacity) × ((length (now marks) ≡ parts) × (length (now known) ≡ knownLength)) ⌝ }
+    ensures { λ r. ⌜ r ≡ wellStored (collectorOf (now (bytes .entry)) (now (marks .entry)) (now (known .entry))) ⌝ }
+{
+    if !well_formed(bytes, marks, shape) {
+        return false;
+    }
+    if known[0] != lowest_by(shape) {
+        return false;
+    }
+    known[1] == complete(shape) as u8
 }

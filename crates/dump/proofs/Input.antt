@@ -8,7 +8,7 @@ use borrow.Author.Tests.{eqb-true}
 use lib.Dec.{eqb}
 use lib.ListN.{length}
 use Rattle.base.specs.Choice.{if_then_else_}
-use Rattle.collector.specs.Collector.{fresh}
+use Rattle.collector.specs.Stored.{freshStored}
 use Rattle.lines.specs.Lines.{lineLength, newline}
 use Rattle.dump.specs.Input.{Line, Lines, answersFrom, heading, joined, lastLine, linesFrom, linesOf, outputOf}
 
@@ -67,6 +67,6 @@ split (x ∷ input) = go (eqb x newline) refl (split input)
     go false e s = begin (s .lines) (s .last) e (s .ended) (s .rest) (s .all)
 
 -- the text of a whole input: the heading and the answers of its lines, one after the other
-pub whole : (lines : List (List ℕ)) (last : List ℕ) → Lines lines → Line last → outputOf (joined lines ++ last) ≡ heading ++ answersFrom fresh (lines ++ lastLine last)
+pub whole : (lines : List (List ℕ)) (last : List ℕ) → Lines lines → Line last → outputOf (joined lines ++ last) ≡ heading ++ answersFrom freshStored (lines ++ lastLine last)
 unfolding outputOf
 whole lines last h o = rw (lines-joined lines last h, last-line last o)

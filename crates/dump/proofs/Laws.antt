@@ -23,9 +23,10 @@ use Rattle.base.specs.declared.written.Written.{Written}
 use Rattle.base.specs.declared.written.Written.the-variants.{Length, Refused}
 use Rattle.base.proofs.Outcome.{apart}
 use Rattle.base.proofs.written.Laws.{placed}
-use Rattle.collector.specs.Collector.{complete, fresh, listOf, missing, standingOf, taking}
+use Rattle.collector.specs.Collector.{complete, missing}
+use Rattle.collector.specs.Stored.{freshStored, listStored, standingStored, takingStored}
 use Rattle.collector.specs.declared.Collector.{Collector}
-use Rattle.collector.proofs.Entries.{told-list, unformed, unlisted}
+use Rattle.collector.proofs.Stored.{told-list, unformed, unlisted}
 use Rattle.lines.specs.Lines.{pairsOf}
 use Rattle.lines.proofs.Laws.{bytes-at, decimal-fits}
 use Rattle.suites.specs.GetChannelCipherSuites.{numbersOf}
@@ -141,13 +142,13 @@ block-fits i n p q =
 -- Suites.
 
 module _ (c : Collector) {b a : List ℕ} where
-  pub list-told : {w : Written} (n : ℕ) → standingOf c ≡ accepted (complete n) → Writes (accepted (suitesText (numbersOf (take (n - 0) (c .bytes))))) w b a → Says (listed (listOf c)) (record { kind = Suites; written = w }) b a
+  pub list-told : {w : Written} (n : ℕ) → standingStored c ≡ accepted (complete n) → Writes (accepted (suitesText (numbersOf (take (n - 0) (c .bytes))))) w b a → Says (listed (listStored c)) (record { kind = Suites; written = w }) b a
   list-told n e w = rw (told-list c n e) (record { tells = refl; writes = w })
 
-  pub lacked : {w : Written} (i : ℕ) → standingOf c ≡ accepted (missing i) → Writes (accepted (missingText i)) w b a → Says (listed (listOf c)) (record { kind = Missing; written = w }) b a
+  pub lacked : {w : Written} (i : ℕ) → standingStored c ≡ accepted (missing i) → Writes (accepted (missingText i)) w b a → Says (listed (listStored c)) (record { kind = Missing; written = w }) b a
   lacked i e w = rw (unlisted c i e) (record { tells = refl; writes = w })
 
-  pub formless : {r : Answered} → standingOf c ≡ refused 9 [] → Says (refusing 9) r b a → Says (listed (listOf c)) r b a
+  pub formless : {r : Answered} → standingStored c ≡ refused 9 [] → Says (refusing 9) r b a → Says (listed (listStored c)) r b a
   formless e w = rw (unformed c e) w
 
 -- Answers to lines.
@@ -160,31 +161,31 @@ module _ (c : Collector) where
   pub kept : {said : Said} {r : Answered} {b a : List ℕ} → Says said r b a → Answers (keeping c said) r b a c c
   kept {said} {r} {b} w = record { says = w; leaves = alike (ltb (length b) (length (said .text))) c }
 
-  pub end-written : {r : Answered} {b a : List ℕ} (n : ℕ) → r .written ≡ Length n → Says (listed (listOf c)) r b a → Answers (ending c) r b a c fresh
+  pub end-written : {r : Answered} {b a : List ℕ} (n : ℕ) → r .written ≡ Length n → Says (listed (listStored c)) r b a → Answers (ending c) r b a c freshStored
   end-written n e w = record { says = w; leaves = rw (had-room {n = n} (rw e at (w .writes))) }
 
-  pub end-unwritten : {r : Answered} {b a : List ℕ} (x : Refusal) → r .written ≡ Refused x → Says (listed (listOf c)) r b a → Answers (ending c) r b a c c
+  pub end-unwritten : {r : Answered} {b a : List ℕ} (x : Refusal) → r .written ≡ Refused x → Says (listed (listStored c)) r b a → Answers (ending c) r b a c c
   end-unwritten x e w = record { says = w; leaves = rw (no-room {x = x} (rw e at (w .writes))) }
 
   module _ (i : ℕ) (part : List ℕ) {b a : List ℕ} where
     pub unroomed : {r : Answered} → length b < length (blockText i (length part)) → Says (heard c i part .said) r b a → Answers (heard c i part) r b a c c
-    unroomed {r} h w = go (taking c i part) w
+    unroomed {r} h w = go (takingStored c i part) w
       where
         go : (o : Outcome Collector) → Says (hearing c i part o .said) r b a → Answers (hearing c i part o) r b a c c
         go (accepted t) w = record { says = w; leaves = rw (lt-ltb (length b) (length (blockText i (length part))) h) }
         go (refused n v) w = kept w
 
-    pub heard-taken : {w : Written} (left : Collector) → taking c i part ≡ accepted left → length (blockText i (length part)) ≤ length b → Writes (accepted (blockText i (length part))) w b a
+    pub heard-taken : {w : Written} (left : Collector) → takingStored c i part ≡ accepted left → length (blockText i (length part)) ≤ length b → Writes (accepted (blockText i (length part))) w b a
         → Answers (heard c i part) (record { kind = Block; written = w }) b a c left
     heard-taken left e h w = rw e (record { says = record { tells = refl; writes = w }; leaves = rw (le-ltb (length b) (length (blockText i (length part))) h) })
 
-    pub heard-refused : {r : Answered} (x : Refusal) → taking c i part ≡ refusal x → Says (refusing (row x .0)) r b a → Answers (heard c i part) r b a c c
+    pub heard-refused : {r : Answered} (x : Refusal) → takingStored c i part ≡ refusal x → Says (refusing (row x .0)) r b a → Answers (heard c i part) r b a c c
     heard-refused x e w = rw e (kept w)
 
-    pub text-refused : {r : Answered} (x : Refusal) → taking c i part ≡ refusal x → Says (refusing (row x .0)) r b a → Says (heard c i part .said) r b a
+    pub text-refused : {r : Answered} (x : Refusal) → takingStored c i part ≡ refusal x → Says (refusing (row x .0)) r b a → Says (heard c i part .said) r b a
     text-refused x e w = rw e w
 
-    pub text-taken : {w : Written} (left : Collector) → taking c i part ≡ accepted left → Writes (accepted (blockText i (length part))) w b a → Says (heard c i part .said) (record { kind = Block; written = w }) b a
+    pub text-taken : {w : Written} (left : Collector) → takingStored c i part ≡ accepted left → Writes (accepted (blockText i (length part))) w b a → Says (heard c i part .said) (record { kind = Block; written = w }) b a
     text-taken left e w = rw e (record { tells = refl; writes = w })
 
   module _ {r : Answered} {b a : List ℕ} {left : Collector} where

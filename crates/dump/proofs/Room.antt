@@ -21,6 +21,8 @@ use Rattle.access.specs.GetChannelAccess.{accessFields, accessOf}
 use Rattle.access.specs.declared.get_channel_access.ChannelAccess.{ChannelAccess}
 use Rattle.collector.specs.Collector.{complete, hasPart, isComplete, lastIndex, leastTo, listBy, listOf, lowest, missing, partLength, parts, put, taking, wellFormed}
 use Rattle.collector.specs.Histories.{Typed}
+use Rattle.collector.specs.Parts.{Parts}
+use Rattle.collector.specs.Stored.{knowing, listStored, partsOf, takingStored, wellStored}
 use Rattle.collector.specs.declared.Collector.{Collector}
 use Rattle.collector.proofs.Complete.{lowest-le}
 use Rattle.info.specs.GetChannelInfo.{infoFields, infoOf}
@@ -123,9 +125,9 @@ suites-room list b h =
     let l = suites-length (numbersOf list) in
     omega arith
 
-module _ (c : Collector) (t : Typed c) where
-  list-room : length (listed (listOf c) .text) ≤ 1024
-  list-room = go (wellFormed c) (isComplete c)
+module _ (c : Collector) (t : Typed (partsOf c)) where
+  list-room : length (listed (listStored c) .text) ≤ 1024
+  list-room = behind (wellStored c)
     where
       whole : (n : ℕ) → length (suitesText (numbersOf (take n (c .bytes)))) ≤ 1024
       whole n = let l = t .bytes in let e = length-take n (c .bytes) in suites-room (take n (c .bytes)) (bytes-take n (c .bytes) (t .small)) (omega arith)
@@ -135,17 +137,29 @@ module _ (c : Collector) (t : Typed c) where
       go true false = let l = lowest-le (c .marks) 64 in missing-room (lowest (c .marks) parts) (omega arith)
       go false k = refused-room 9 (omega arith)
 
-  taking-low : (i : ℕ) (part : List ℕ) → Low (taking c i part)
+      behind : (w : Bool) → length (listed (if w then listOf (partsOf c) else refused 9 []) .text) ≤ 1024
+      behind true = go (wellFormed (partsOf c)) (isComplete (partsOf c))
+      behind false = refused-room 9 (omega arith)
+
+  taking-low : (i : ℕ) (part : List ℕ) → Low (taking (partsOf c) i part)
   unfolding taking
   taking-low i part =
-      low-if (wellFormed c) _ _
+      low-if (wellFormed (partsOf c)) _ _
       (low-if (ltb lastIndex i) _ _ (omega arith)
       (low-if (ltb partLength (length part)) _ _ (omega arith)
-      (low-if (eqb (getD (c .marks) i 0) 0) _ _ (low-if (wellFormed (put c i part)) _ _ tt (omega arith)) (low-if (hasPart c i part) _ _ tt (omega arith)))))
+      (low-if (eqb (getD (c .marks) i 0) 0) _ _ (low-if (wellFormed (put (partsOf c) i part)) _ _ tt (omega arith)) (low-if (hasPart (partsOf c) i part) _ _ tt (omega arith)))))
       (omega arith)
 
+  stored-low : (i : ℕ) (part : List ℕ) → Low (takingStored c i part)
+  unfolding takingStored
+  stored-low i part = low-if (wellStored c) _ _ (go (taking (partsOf c) i part) (taking-low i part)) (omega arith)
+    where
+      go : (x : Outcome Parts) → Low x → Low (x >>= (λ t. accepted (knowing t)))
+      go (accepted t) l = l
+      go (refused number carried) l = l
+
   heard-room : (i : ℕ) (part : List ℕ) → i < 256 → Small (length part) → length (heard c i part .said .text) ≤ 1024
-  heard-room i part h k = go (taking c i part) (taking-low i part)
+  heard-room i part h k = go (takingStored c i part) (stored-low i part)
     where
       go : (x : Outcome Collector) → Low x → length (hearing c i part x .said .text) ≤ 1024
       go (accepted a) l = let f = block-fits i (length part) h k in omega arith
@@ -201,7 +215,7 @@ pairs-bytes text bytes e = all-bytes bytes (λ i. go i (ltb i (length bytes)) re
     go i false p = let q = List·getD-eq-default bytes 0 (ltb-false i (length bytes) p) in omega arith
 
 -- No answer to a line is longer, whatever the collector of the machine.
-pub room-enough : (c : Collector) → Typed c → (line : List ℕ) → length (answering c line .said .text) ≤ 1024
+pub room-enough : (c : Collector) → Typed (partsOf c) → (line : List ℕ) → length (answering c line .said .text) ≤ 1024
 unfolding answering
 room-enough c t line = go (ltb longest (length line)) (pairsOf (drop 3 line)) refl refl
   where

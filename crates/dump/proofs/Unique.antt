@@ -26,4 +26,4 @@ answered make {answer} {r} {r′} q q′ =
     made e f = rw (e, f)
 
 pub dump-unique : Unique p.dump.Kinds.ps p.dump.Kinds.r p.dump.Reads.Asked p.dump.Reads.Learnt
-dump-unique κs a ok z z′ w w′ q q′ = (answered (λ r after left. r) q q′, answered (λ r after left. (left .bytes, (left .marks, (tt, (after, tt))))) q q′)
+dump-unique κs a ok z z′ w w′ q q′ = (answered (λ r after left. r) q q′, answered (λ r after left. (left .bytes, (left .marks, (left .known, (tt, (after, tt)))))) q q′)

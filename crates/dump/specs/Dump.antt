@@ -11,7 +11,7 @@ use Rattle.base.specs.Outcome.{Outcome, accepted, refused}
 use Rattle.base.specs.Text.{ascii}
 use Rattle.base.specs.Written.{Writes}
 use Rattle.access.specs.GetChannelAccess.{accessOf}
-use Rattle.collector.specs.Collector.{fresh, listOf, taking}
+use Rattle.collector.specs.Stored.{freshStored, listStored, takingStored}
 use Rattle.collector.specs.declared.Collector.{Collector}
 use Rattle.info.specs.GetChannelInfo.{infoOf}
 use Rattle.lines.specs.Lines.{pairsOf}
@@ -80,7 +80,7 @@ hearing c index response (refused number carried) = keeping c (refusing number)
 
 -- `sui`: "an index, then a response"
 abbrev pub heard : Collector → ℕ → List ℕ → Answer
-heard c index response = hearing c index response (taking c index response)
+heard c index response = hearing c index response (takingStored c index response)
 
 -- "an incomplete `end` prints `missing N`"
 abbrev pub listed : Outcome (List ℕ) → Said
@@ -89,7 +89,7 @@ listed (refused number carried) = if number =? 13 then record { kind = Missing; 
 
 -- "lists suites and starts a fresh collector", also where the list is not complete
 abbrev pub ending : Collector → Answer
-ending c = record { said = listed (listOf c); collector = fresh }
+ending c = record { said = listed (listStored c); collector = freshStored }
 
 -- "`inf`, `acc`, `cap` take a response; `sui` an index, then a response; `end` alone lists suites and starts a fresh collector"
 abbrev pub saying : Collector → Word → List ℕ → Answer

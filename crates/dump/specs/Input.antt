@@ -5,7 +5,7 @@ use mathlib.Core.Path.{_≡_}
 use lib.ListN.{length}
 use Rattle.base.specs.Choice.{if_then_else_, _=?_}
 use Rattle.base.specs.Text.{ascii}
-use Rattle.collector.specs.Collector.{fresh}
+use Rattle.collector.specs.Stored.{freshStored}
 use Rattle.collector.specs.declared.Collector.{Collector}
 use Rattle.lines.specs.Lines.{lineLength, newline}
 use Rattle.dump.specs.Dump.{answering}
@@ -44,7 +44,7 @@ heading = ascii "chandump 1" ++ (newline ∷ [])
 
 -- the heading, then the answers
 unfoldable pub outputOf : List ℕ → List ℕ
-outputOf input = heading ++ answersFrom fresh (linesOf input)
+outputOf input = heading ++ answersFrom freshStored (linesOf input)
 
 -- a line has no newline in it
 abbrev pub Line : List ℕ → Type 0

@@ -6,7 +6,8 @@ ghost use Rattle.auth.specs.GetChannelAuthenticationCapabilities.{bestAuth, cap
 ghost use Rattle.base.specs.Outcome.{accepted};
 ghost use Rattle.base.specs.Written.{Writes};
 ghost use Rattle.access.specs.GetChannelAccess.{accessOf};
-ghost use Rattle.collector.specs.Collector.{capacity, held, listOf};
+ghost use Rattle.collector.specs.Collector.{capacity};
+ghost use Rattle.collector.specs.Stored.{collectorOf, listStored};
 ghost use Rattle.info.specs.GetChannelInfo.{infoOf};
 ghost use Rattle.suites.specs.GetChannelCipherSuites.{numbersOf};
 ghost use Rattle.texts.specs.Texts.{accessText, authText, blockText, infoText, suitesText};
@@ -176,11 +177,12 @@ fn suites(list: &[u8], out: &mut [u8]) -> Written
 fn list(
     bytes: &[u8; Collector::CAPACITY],
     marks: &[u8; Collector::PARTS],
+    known: &[u8; Collector::KNOWN],
     out: &mut [u8],
 ) -> Answered
-    ensures { λ r. ⌜ Says (listed (listOf (held (now (bytes .entry)) (now (marks .entry))))) r (now (out .entry)) (now (out .exit)) ⌝ }
+    ensures { λ r. ⌜ Says (listed (listStored (collectorOf (now (bytes .entry)) (now (marks .entry)) (now (known .entry))))) r (now (out .entry)) (now (out .exit)) ⌝ }
 {
-    let status = status_in(bytes, marks);
+    let status = status_in(bytes, marks, known);
     match status {
         Status::Complete(length) => {
             let all = &bytes[..];
@@ -205,16 +207,18 @@ fn list(
 fn end(
     bytes: &mut [u8; Collector::CAPACITY],
     marks: &mut [u8; Collector::PARTS],
+    known: &mut [u8; Collector::KNOWN],
     out: &mut [u8],
 ) -> Answered
-    ensures { λ r. ⌜ Answers (ending (held (now (bytes .entry)) (now (marks .entry)))) r (now (out .entry)) (now (out .exit)) (held (now (bytes .entry)) (now (marks .entry))) (held (now (bytes .exit)) (now (marks .exit))) ⌝ }
+    ensures { λ r. ⌜ Answers (ending (collectorOf (now (bytes .entry)) (now (marks .entry)) (now (known .entry)))) r (now (out .entry)) (now (out .exit)) (collectorOf (now (bytes .entry)) (now (marks .entry)) (now (known .entry))) (collectorOf (now (bytes .exit)) (now (marks .exit)) (now (known .exit))) ⌝ }
 {
-    let answered = list(bytes, marks, out);
+    let answered = list(bytes, marks, known, out);
     let written = answered.written;
     match written {
         Written::Length(_) => {
             *bytes = [0; Collector::CAPACITY];
             *marks = [0; Collector::PARTS];
+            *known = [0; Collector::KNOWN];
             answered
         }
         Written::Refused(_) => answered,
@@ -225,16 +229,18 @@ fn end(
 fn without_room(
     bytes: &[u8; Collector::CAPACITY],
     marks: &[u8; Collector::PARTS],
+    known: &[u8; Collector::KNOWN],
     index: u8,
     response: &[u8],
     out: &mut [u8],
 ) -> Answered
     requires { ⌜ length (now out) < length (blockText index (length (now response))) ⌝ }
-    ensures { λ r. ⌜ Says (heard (held (now (bytes .entry)) (now (marks .entry))) index (now (response .entry)) .said) r (now (out .entry)) (now (out .exit)) ⌝ }
+    ensures { λ r. ⌜ Says (heard (collectorOf (now (bytes .entry)) (now (marks .entry)) (now (known .entry))) index (now (response .entry)) .said) r (now (out .entry)) (now (out .exit)) ⌝ }
 {
     let mut bytes = *bytes;
     let mut marks = *marks;
-    let verdict = answer_in(&mut bytes, &mut marks, index, response);
+    let mut known = *known;
+    let verdict = answer_in(&mut bytes, &mut marks, &mut known, index, response);
     match verdict {
         Verdict::Accepted => Answered {
             kind: Kind::Block,
@@ -247,11 +253,12 @@ fn without_room(
 fn hear(
     bytes: &mut [u8; Collector::CAPACITY],
     marks: &mut [u8; Collector::PARTS],
+    known: &mut [u8; Collector::KNOWN],
     index: u8,
     response: &[u8],
     out: &mut [u8],
 ) -> Answered
-    ensures { λ r. ⌜ Answers (heard (held (now (bytes .entry)) (now (marks .entry))) index (now (response .entry))) r (now (out .entry)) (now (out .exit)) (held (now (bytes .entry)) (now (marks .entry))) (held (now (bytes .exit)) (now (marks .exit))) ⌝ }
+    ensures { λ r. ⌜ Answers (heard (collectorOf (now (bytes .entry)) (now (marks .entry)) (now (known .entry))) index (now (response .entry))) r (now (out .entry)) (now (out .exit)) (collectorOf (now (bytes .entry)) (now (marks .entry)) (now (known .entry))) (collectorOf (now (bytes .exit)) (now (marks .exit)) (now (known .exit))) ⌝ }
 {
     let mut text = [0u8; BLOCK];
     let Written::Length(n) = block_text(index, response.len(), &mut text) else {
@@ -261,9 +268,9 @@ fn hear(
         };
     };
     if out.len() < n {
-        return without_room(bytes, marks, index, response, out);
+        return without_room(bytes, marks, known, index, response, out);
     }
-    let verdict = answer_in(bytes, marks, index, response);
+    let verdict = answer_in(bytes, marks, known, index, response);
     match verdict {
         Verdict::Accepted => {
             let written = place(&text[0..n], out);
@@ -279,46 +286,49 @@ fn hear(
 fn hear_pairs(
     bytes: &mut [u8; Collector::CAPACITY],
     marks: &mut [u8; Collector::PARTS],
+    known: &mut [u8; Collector::KNOWN],
     pairs: &[u8],
     out: &mut [u8],
 ) -> Answered
-    ensures { λ r. ⌜ Answers (saying (held (now (bytes .entry)) (now (marks .entry))) Word.Sui (now (pairs .entry))) r (now (out .entry)) (now (out .exit)) (held (now (bytes .entry)) (now (marks .entry))) (held (now (bytes .exit)) (now (marks .exit))) ⌝ }
+    ensures { λ r. ⌜ Answers (saying (collectorOf (now (bytes .entry)) (now (marks .entry)) (now (known .entry))) Word.Sui (now (pairs .entry))) r (now (out .entry)) (now (out .exit)) (collectorOf (now (bytes .entry)) (now (marks .entry)) (now (known .entry))) (collectorOf (now (bytes .exit)) (now (marks .exit)) (now (known .exit))) ⌝ }
 {
     if pairs.len() == 0 {
         return refused(Refusal::BadLine.number(), out);
     }
-    hear(bytes, marks, pairs[0], &pairs[1..], out)
+    hear(bytes, marks, known, pairs[0], &pairs[1..], out)
 }
 
 fn end_pairs(
     bytes: &mut [u8; Collector::CAPACITY],
     marks: &mut [u8; Collector::PARTS],
+    known: &mut [u8; Collector::KNOWN],
     pairs: &[u8],
     out: &mut [u8],
 ) -> Answered
-    ensures { λ r. ⌜ Answers (saying (held (now (bytes .entry)) (now (marks .entry))) Word.End (now (pairs .entry))) r (now (out .entry)) (now (out .exit)) (held (now (bytes .entry)) (now (marks .entry))) (held (now (bytes .exit)) (now (marks .exit))) ⌝ }
+    ensures { λ r. ⌜ Answers (saying (collectorOf (now (bytes .entry)) (now (marks .entry)) (now (known .entry))) Word.End (now (pairs .entry))) r (now (out .entry)) (now (out .exit)) (collectorOf (now (bytes .entry)) (now (marks .entry)) (now (known .entry))) (collectorOf (now (bytes .exit)) (now (marks .exit)) (now (known .exit))) ⌝ }
 {
     if pairs.len() != 0 {
         return refused(Refusal::BadLine.number(), out);
     }
-    end(bytes, marks, out)
+    end(bytes, marks, known, out)
 }
 
 fn say(
     bytes: &mut [u8; Collector::CAPACITY],
     marks: &mut [u8; Collector::PARTS],
+    known: &mut [u8; Collector::KNOWN],
     word: Word,
     pairs: &[u8],
     out: &mut [u8],
 ) -> Answered
-    ensures { λ r. ⌜ Answers (saying (held (now (bytes .entry)) (now (marks .entry))) word (now (pairs .entry))) r (now (out .entry)) (now (out .exit)) (held (now (bytes .entry)) (now (marks .entry))) (held (now (bytes .exit)) (now (marks .exit))) ⌝ }
+    ensures { λ r. ⌜ Answers (saying (collectorOf (now (bytes .entry)) (now (marks .entry)) (now (known .entry))) word (now (pairs .entry))) r (now (out .entry)) (now (out .exit)) (collectorOf (now (bytes .entry)) (now (marks .entry)) (now (known .entry))) (collectorOf (now (bytes .exit)) (now (marks .exit)) (now (known .exit))) ⌝ }
 {
     match word {
         Word::Inf => info(pairs, out),
         Word::Acc => access(pairs, out),
         Word::Cap => capabilities(pairs, out),
-        Word::Sui => hear_pairs(bytes, marks, pairs, out),
-        Word::End => end_pairs(bytes, marks, pairs, out),
+        Word::Sui => hear_pairs(bytes, marks, known, pairs, out),
+        Word::End => end_pairs(bytes, marks, known, pairs, out),
         Word::Other => refused(Refusal::BadLine.number(), out),
     }
 }
@@ -327,10 +337,11 @@ fn say(
 pub fn dump(
     bytes: &mut [u8; Collector::CAPACITY],
     marks: &mut [u8; Collector::PARTS],
+    known: &mut [u8; Collector::KNOWN],
     line: &[u8],
     out: &mut [u8],
 ) -> Answered
-    ensures { λ r. ⌜ Answers (answering (held (now (bytes .entry)) (now (marks .entry))) (now (line .entry))) r (now (out .entry)) (now (out .exit)) (held (now (bytes .entry)) (now (marks .entry))) (held (now (bytes .exit)) (now (marks .exit))) ⌝ }
+    ensures { λ r. ⌜ Answers (answering (collectorOf (now (bytes .entry)) (now (marks .entry)) (now (known .entry))) (now (line .entry))) r (now (out .entry)) (now (out .exit)) (collectorOf (now (bytes .entry)) (now (marks .entry)) (now (known .entry))) (collectorOf (now (bytes .exit)) (now (marks .exit)) (now (known .exit))) ⌝ }
 {
     if LONGEST < line.len() {
         return refused(Refusal::BadLine.number(), out);
@@ -342,5 +353,5 @@ pub fn dump(
     let Written::Length(n) = read_pairs(&line[LETTERS..], &mut pairs) else {
         return refused(Refusal::BadLine.number(), out);
     };
-    say(bytes, marks, word_of(line), &pairs[0..n], out)
+    say(bytes, marks, known, word_of(line), &pairs[0..n], out)
 }

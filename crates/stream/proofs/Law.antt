@@ -9,12 +9,12 @@ use lib.Dec.{eqb, ltb}
 use lib.ListN.{length, take, drop, length-append, length-take}
 use lib.Seq.{drop-append-seam, take-all}
 use Rattle.base.specs.Choice.{if_then_else_}
-use Rattle.collector.specs.Collector.{fresh}
 use Rattle.collector.specs.Histories.{Typed}
+use Rattle.collector.specs.Stored.{partsOf}
 use Rattle.collector.specs.declared.Collector.{Collector}
 use Rattle.lines.specs.Lines.{lineLength, newline}
 use Rattle.dump.specs.Dump.{answering, longest}
-use Rattle.dump.specs.Input.{Line, Lines, answerTo, answersFrom, collectorFrom, heading, joined, lastLine, linesFrom, linesOf, outputOf}
+use Rattle.dump.specs.Input.{Line, Lines, answerTo, answersFrom, collectorFrom, joined, lastLine, linesFrom, linesOf, outputOf}
 use Rattle.dump.proofs.Input.{Split, last-line, lines-joined, longer, split}
 use Rattle.dump.proofs.Laws.{long}
 use Rattle.dump.proofs.Room.{room-enough}
@@ -181,7 +181,7 @@ all-written {input} {text} {rest} {c} r h =
     ∙ sym (reached-so-far r []) ∙ ap outputOf (append-nil input)
 
 -- where nothing is answered in that room, there is no line
-pub none-left : (room : ℕ) (c : Collector) (rest : List ℕ) → Typed c → enough ≤ room → length (joined (fitting room c (endedLines rest))) ≡ 0 → Line rest
+pub none-left : (room : ℕ) (c : Collector) (rest : List ℕ) → Typed (partsOf c) → enough ≤ room → length (joined (fitting room c (endedLines rest))) ≡ 0 → Line rest
 unfolding fitting
 none-left room c rest t h z = go (split rest)
   where
@@ -197,7 +197,7 @@ none-left room c rest t h z = go (split rest)
     go s = by (s .lines) (s .last) (s .all) (rw (s .all) (all-ended (s .lines) (s .last) (s .ended) (s .rest))) (s .rest)
 
 -- and so has the last line's answer
-pub last-room : (c : Collector) (rest : List ℕ) → Typed c → length (answersFrom c (lastLine rest)) ≤ enough
+pub last-room : (c : Collector) (rest : List ℕ) → Typed (partsOf c) → length (answersFrom c (lastLine rest)) ≤ enough
 unfolding answersFrom
 last-room c [] t = omega arith
 last-room c (x ∷ rest) t =

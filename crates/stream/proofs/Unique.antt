@@ -30,7 +30,7 @@ pub begin-unique : Unique p.begin.Kinds.ps p.begin.Kinds.r p.begin.Reads.Asked p
 begin-unique κs a ok z z′ w w′ q q′ = (written-one z z′ (both (q .answers) (q′ .answers)), ap (λ (x : List ℕ). (x, tt)) (both (q .leaves) (q′ .leaves)))
 
 pub feed-unique : Unique p.feed.Kinds.ps p.feed.Kinds.r p.feed.Reads.Asked p.feed.Reads.Learnt
-feed-unique κs a ok z z′ w w′ q q′ = (fed (λ r after left. r) q q′, fed (λ r after left. (left .bytes, (left .marks, (tt, (after, tt))))) q q′)
+feed-unique κs a ok z z′ w w′ q q′ = (fed (λ r after left. r) q q′, fed (λ r after left. (left .bytes, (left .marks, (left .known, (tt, (after, tt)))))) q q′)
 
 pub finish-unique : Unique p.finish.Kinds.ps p.finish.Kinds.r p.finish.Reads.Asked p.finish.Reads.Learnt
-finish-unique κs a ok z z′ w w′ q q′ = (replied (λ r after left. r) q q′, replied (λ r after left. (left .bytes, (left .marks, (tt, (after, tt))))) q q′)
+finish-unique κs a ok z z′ w w′ q q′ = (replied (λ r after left. r) q q′, replied (λ r after left. (left .bytes, (left .marks, (left .known, (tt, (after, tt)))))) q q′)

@@ -7,7 +7,7 @@ use Rattle.base.specs.Choice.{if_then_else_, _<?_, _=?_}
 use Rattle.base.specs.Outcome.{accepted}
 use Rattle.base.specs.Written.{Writes}
 use Rattle.base.specs.declared.written.Written.{Written}
-use Rattle.collector.specs.Collector.{fresh}
+use Rattle.collector.specs.Stored.{freshStored}
 use Rattle.collector.specs.declared.Collector.{Collector}
 use Rattle.lines.specs.Lines.{newline}
 use Rattle.dump.specs.Dump.{answering, longest}
@@ -54,7 +54,7 @@ limit = suc longest
 -- first. What is read stands behind what is left. Lines are answered in whatever room. Where no line is left, as much is kept of the
 -- unfinished one as tells.
 pub data Reached : List ℕ → List ℕ → List ℕ → Collector → Type 0 where
-  begun : Reached [] heading [] fresh
+  begun : Reached [] heading [] freshStored
   read : {input text rest : List ℕ} {c : Collector} → Reached input text rest c → (piece : List ℕ) → Reached (input ++ piece) text (rest ++ piece) c
   fed : {input text rest : List ℕ} {c : Collector} → Reached input text rest c → (room : ℕ)
       → Reached input (text ++ answersFrom c (fitting room c (endedLines rest))) (drop (length (joined (fitting room c (endedLines rest)))) rest) (collectorFrom c (fitting room c (endedLines rest)))

@@ -3,7 +3,7 @@ ghost use mathlib.Core.List.{[], _∷_};
 ghost use lib.ListN.{length};
 ghost use Rattle.base.specs.Outcome.{accepted};
 ghost use Rattle.base.specs.Written.{Writes};
-ghost use Rattle.collector.specs.Collector.{held};
+ghost use Rattle.collector.specs.Stored.{collectorOf};
 ghost use Rattle.dump.specs.Input.{heading, lastLine};
 ghost use Rattle.stream.specs.Steps.{Steps};
 ghost use Rattle.stream.specs.Stream.{Feeds, Replies, endedLines, fitting};
@@ -43,16 +43,17 @@ pub fn begin(out: &mut [u8]) -> Written
 fn reply(
     bytes: &mut [u8; Collector::CAPACITY],
     marks: &mut [u8; Collector::PARTS],
+    known: &mut [u8; Collector::KNOWN],
     line: &[u8],
     out: &mut [u8],
 ) -> Written
-    ensures { λ r. ⌜ Replies (held (now (bytes .entry)) (now (marks .entry))) (now (line .entry) ∷ []) r (now (out .entry)) (now (out .exit)) (held (now (bytes .exit)) (now (marks .exit))) ⌝ }
+    ensures { λ r. ⌜ Replies (collectorOf (now (bytes .entry)) (now (marks .entry)) (now (known .entry))) (now (line .entry) ∷ []) r (now (out .entry)) (now (out .exit)) (collectorOf (now (bytes .exit)) (now (marks .exit)) (now (known .exit))) ⌝ }
 {
     if out.len() == 0 {
         return Written::Refused(Refusal::NoRoom);
     }
     let room = out.len() - 1;
-    let answer = dump(bytes, marks, line, &mut out[0..room]);
+    let answer = dump(bytes, marks, known, line, &mut out[0..room]);
     let written = answer.written;
     let Written::Length(n) = written else {
         return Written::Refused(Refusal::NoRoom);
@@ -65,10 +66,11 @@ fn reply(
 fn step(
     bytes: &mut [u8; Collector::CAPACITY],
     marks: &mut [u8; Collector::PARTS],
+    known: &mut [u8; Collector::KNOWN],
     block: &[u8],
     out: &mut [u8],
 ) -> Progress
-    ensures { λ r. ⌜ Steps (held (now (bytes .entry)) (now (marks .entry))) (now (block .entry)) r (now (out .entry)) (now (out .exit)) (held (now (bytes .exit)) (now (marks .exit))) ⌝ }
+    ensures { λ r. ⌜ Steps (collectorOf (now (bytes .entry)) (now (marks .entry)) (now (known .entry))) (now (block .entry)) r (now (out .entry)) (now (out .exit)) (collectorOf (now (bytes .exit)) (now (marks .exit)) (now (known .exit))) ⌝ }
 {
     let end = newline_from(block, 0);
     if end == block.len() {
@@ -78,7 +80,7 @@ fn step(
             on: false,
         };
     }
-    let Written::Length(n) = reply(bytes, marks, &block[0..end], out) else {
+    let Written::Length(n) = reply(bytes, marks, known, &block[0..end], out) else {
         return Progress {
             taken: 0,
             put: 0,
@@ -97,10 +99,11 @@ fn step(
 pub fn feed(
     bytes: &mut [u8; Collector::CAPACITY],
     marks: &mut [u8; Collector::PARTS],
+    known: &mut [u8; Collector::KNOWN],
     block: &[u8],
     out: &mut [u8],
 ) -> Fed
-    ensures { λ r. ⌜ Feeds (held (now (bytes .entry)) (now (marks .entry))) (fitting (length (now (out .entry))) (held (now (bytes .entry)) (now (marks .entry))) (endedLines (now (block .entry)))) r (now (out .entry)) (now (out .exit)) (held (now (bytes .exit)) (now (marks .exit))) ⌝ }
+    ensures { λ r. ⌜ Feeds (collectorOf (now (bytes .entry)) (now (marks .entry)) (now (known .entry))) (fitting (length (now (out .entry))) (collectorOf (now (bytes .entry)) (now (marks .entry)) (now (known .entry))) (endedLines (now (block .entry)))) r (now (out .entry)) (now (out .exit)) (collectorOf (now (bytes .exit)) (now (marks .exit)) (now (known .exit))) ⌝ }
 {
     let mut t = Progress {
         taken: 0,
@@ -110,7 +113,7 @@ pub fn feed(
     while t.on {
         let at = t.taken;
         let put = t.put;
-        let s = step(bytes, marks, &block[at..], &mut out[put..]);
+        let s = step(bytes, marks, known, &block[at..], &mut out[put..]);
         t = Progress {
             taken: at + s.taken,
             put: put + s.put,
@@ -127,13 +130,14 @@ pub fn feed(
 pub fn finish(
     bytes: &mut [u8; Collector::CAPACITY],
     marks: &mut [u8; Collector::PARTS],
+    known: &mut [u8; Collector::KNOWN],
     rest: &[u8],
     out: &mut [u8],
 ) -> Written
-    ensures { λ r. ⌜ Replies (held (now (bytes .entry)) (now (marks .entry))) (lastLine (now (rest .entry))) r (now (out .entry)) (now (out .exit)) (held (now (bytes .exit)) (now (marks .exit))) ⌝ }
+    ensures { λ r. ⌜ Replies (collectorOf (now (bytes .entry)) (now (marks .entry)) (now (known .entry))) (lastLine (now (rest .entry))) r (now (out .entry)) (now (out .exit)) (collectorOf (now (bytes .exit)) (now (marks .exit)) (now (known .exit))) ⌝ }
 {
     if rest.len() == 0 {
         return Written::Length(0);
     }
-    reply(bytes, marks, rest, out)
+    reply(bytes, marks, known, rest, out)
 }

@@ -56,7 +56,7 @@ pub suite-numbers-unique : Unique p.get_channel_cipher_suites.suite_numbers.Kind
 suite-numbers-unique κs a ok z z′ w w′ q q′ = writer 1 q q′
 
 pub collected-suites-in-unique : Unique p.collected.collected_suites_in.Kinds.ps p.collected.collected_suites_in.Kinds.r p.collected.collected_suites_in.Reads.Asked p.collected.collected_suites_in.Reads.Learnt
-collected-suites-in-unique κs a ok z z′ w w′ q q′ = writer 2 q q′
+collected-suites-in-unique κs a ok z z′ w w′ q q′ = writer 3 q q′
 
 pub collected-suites-unique : Unique p.collected.collected_suites.Kinds.ps p.collected.collected_suites.Kinds.r p.collected.collected_suites.Reads.Asked p.collected.collected_suites.Reads.Learnt
 collected-suites-unique κs a ok z z′ w w′ q q′ = writer 1 q q′

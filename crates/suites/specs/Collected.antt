@@ -2,12 +2,12 @@
 use Prim.Native.Nat.{ℕ}
 use mathlib.Core.List.{List}
 use Rattle.base.specs.Outcome.{Outcome, accepted, _>>=_}
-use Rattle.collector.specs.Collector.{listOf}
+use Rattle.collector.specs.Stored.{listStored}
 use Rattle.collector.specs.declared.Collector.{Collector}
 use Rattle.suites.specs.GetChannelCipherSuites.{numbersOf}
 
 -- the suites of the list that it holds, "a number byte each"
 abbrev pub suitesOf : Collector → Outcome (List ℕ)
 suitesOf c = do
-  list ← listOf c
+  list ← listStored c
   accepted (numbersOf list)

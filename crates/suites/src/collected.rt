@@ -1,6 +1,6 @@
 // The suites of a collected list: document 01, "asked for bytes or suites (a number byte each)".
 ghost use Rattle.base.specs.Written.{Writes};
-ghost use Rattle.collector.specs.Collector.{held};
+ghost use Rattle.collector.specs.Stored.{collectorOf};
 ghost use Rattle.suites.specs.Collected.{suitesOf};
 use crate::get_channel_cipher_suites::suite_numbers;
 use base::refusal::Refusal;
@@ -13,11 +13,12 @@ use collector::status_in;
 pub fn collected_suites_in(
     bytes: &[u8; Collector::CAPACITY],
     marks: &[u8; Collector::PARTS],
+    known: &[u8; Collector::KNOWN],
     out: &mut [u8],
 ) -> Written
-    ensures { λ r. ⌜ Writes (suitesOf (held (now (bytes .entry)) (now (marks .entry)))) r (now (out .entry)) (now (out .exit)) ⌝ }
+    ensures { λ r. ⌜ Writes (suitesOf (collectorOf (now (bytes .entry)) (now (marks .entry)) (now (known .entry)))) r (now (out .entry)) (now (out .exit)) ⌝ }
 {
-    let status = status_in(bytes, marks);
+    let status = status_in(bytes, marks, known);
     match status {
         Status::Complete(length) => {
             let all = &bytes[..];
@@ -33,5 +34,6 @@ pub fn collected_suites(collector: Collector, out: &mut [u8]) -> Written
 {
     let bytes = collector.bytes;
     let marks = collector.marks;
-    collected_suites_in(&bytes, &marks, out)
+    let known = collector.known;
+    collected_suites_in(&bytes, &marks, &known, out)
 }

@@ -2,17 +2,12 @@ use borrow.Author.Needs.{needs}
 use Rattle.chandump.proofs.Laws.{further-none, further-some}
 use Rattle.chandump.proofs.further.Statement.{statement}
 use Rattle.chandump.proofs.further.Tie as tie
-use Rattle.chandump.proofs.further.Reads as reads
-use Rattle.chandump.proofs.further.Lts as lts
 
--- src/main.rt:159:9
 returns : tie.Need-returns
 returns c =
     let a = c .before .before .args in
     further-none (a .at) (a .part) (c .if1 .taken)
 
--- src/main.rt:166:13
--- src/main.rt:154:1
 returns-2 : tie.Need-returns-2
 returns-2 c =
     let i = c .before in

@@ -6,9 +6,9 @@ use Rattle.chandump.proofs.last.Tie as tie
 returns : tie.Need-returns
 returns c =
     let f = c .before .before .before .before in
-    let k = f .before .before .before .before in
+    let k = f .before .before .before .before .before in
     let s = k .before .before .before .before .before in
-    last-never (s .args .rest .now) (f .finish .ensures) (k .known .ensures) (s .pre .1 .1) (c .enum-told .given .1)
+    last-never (s .args .rest .now) (f .finish .ensures) (k .typed .ensures) (s .pre .1 .1) (c .enum-told .given .1)
 
 part-written-end : tie.Need-part-written-end
 part-written-end c =
@@ -20,7 +20,7 @@ returns-2 : tie.Need-returns-2
 returns-2 c =
     let n = c .before .before .before .before in
     let f = n .before .before .before .before in
-    let s = f .before .before .before .before .before .before .before .before .before in
+    let s = f .before .before .before .before .before .before .before .before .before .before in
     last-put (s .args .rest .now) (f .finish .ensures) (n .put .given .0 .0) (s .pre .0) (s .pre .1 .0) (n .put .given .1)
 
 pub last-spec : {M : Type 1} → statement M

@@ -6,16 +6,16 @@ use Rattle.chandump.proofs.once.Tie as tie
 
 add-answer : tie.Need-add-answer
 add-answer c =
-    let g = c .before .before .before .before in
+    let g = c .before .before .before .before .before in
     let r = g .before .before .before .before in
     let s = r .before .before .before .before .before in
     let n = g .got .given .0 .0 in
     let i = read-within (r .receive .last .0) (s .pre .0) (r .receive .kept .0) n (within-bytes (g .got .given .1) (r .receive .ensures)) in
-    record { fits = omega (arith, i, s .good .1 .1 .1 .0 .0) }
+    record { fits = omega (arith, i, s .good .1 .1 .1 .1 .0 .0) }
 
 answer-requires : tie.Need-answer-requires
 answer-requires c κs =
-    let g = c .before .before .before .before .before in
+    let g = c .before .before .before .before .before .before in
     let r = g .before .before .before .before in
     let s = r .before .before .before .before .before in
     let n = g .got .given .0 .0 in
@@ -25,7 +25,7 @@ answer-requires c κs =
 
 last-requires : tie.Need-last-requires
 last-requires c κs =
-    let r = c .before .before .before .before .before .before .before .before .before in
+    let r = c .before .before .before .before .before .before .before .before .before .before in
     let s = r .before .before .before .before .before in
     let e = read-end (r .receive .last .0) (s .pre .0) (r .receive .kept .0) in
     (e .0, (e .1, s .pre .0 .room))
@@ -37,7 +37,7 @@ returns-2 c =
     (λ h. read-none (r .receive .last .0) (s .pre .0) (r .receive .kept .0), omega (arith, s .pre .1))
 
 returns-3 : tie.Need-returns-3
-returns-3 c = (λ h. absurd (omega arith), c .before .before .before .before .before .before .before .before .before .before .before .before .before .before .before .before .before .pre .1)
+returns-3 c = (λ h. absurd (omega arith), c .before .before .before .before .before .before .before .before .before .before .before .before .before .before .before .before .before .before .pre .1)
 
 returns-4 : tie.Need-returns-4
 returns-4 c = (λ h. absurd (omega arith), c .before .before .before .before .before .before .before .before .before .pre .1)

@@ -3,17 +3,17 @@ use mathlib.Core.Path.{_≡_, refl}
 use Prim.Native.Nat.{_<_}
 use native.Mathlib.Omega.{arith}
 use lib.ListN.{length}
-use Rattle.collector.specs.Collector.{held}
+use Rattle.collector.specs.Stored.{collectorOf}
 use Rattle.chandump.specs.Run.{Ready}
 use Rattle.chandump.proofs.Laws.{ready-first}
 use Rattle.chandump.proofs.run.Statement.{statement}
 use Rattle.chandump.proofs.run.Tie as tie
 
 abbrev Inv-loop : tie.InvT-loop
-Inv-loop bytes₀ marks₀ block₀ out₀ turn₀ bytes marks block out turn = (0 < turn .calls → Ready (turn .held) block out (held bytes marks)) × ((length block ≡ length block₀) × (length out ≡ length out₀))
+Inv-loop bytes₀ marks₀ known₀ block₀ out₀ turn₀ bytes marks known block out turn = (0 < turn .calls → Ready (turn .held) block out (collectorOf bytes marks known)) × ((length block ≡ length block₀) × (length out ≡ length out₀))
 
 abbrev μ-loop : tie.MeasureT-loop
-μ-loop bytes₀ marks₀ block₀ out₀ turn₀ bytes marks block out turn = turn .calls
+μ-loop bytes₀ marks₀ known₀ block₀ out₀ turn₀ bytes marks known block out turn = turn .calls
 
 loop-holds : tie.Need-loop-holds Inv-loop μ-loop
 loop-holds c =
@@ -23,14 +23,14 @@ loop-holds c =
 
 once-requires : tie.Need-once-requires Inv-loop μ-loop
 once-requires c κs =
-    let i = c .before .before .before .before in
+    let i = c .before .before .before .before .before in
     (i .before .before .loop .inv .0 (i .if1 .taken), i .if1 .taken)
 
 loop-again : tie.Need-loop-again Inv-loop μ-loop
 loop-again c =
     let o = c .before .before .before .before in
-    let l = o .before .before .before .before .before .before .before in
-    (o .once .ensures .0, (omega (arith, o .once .kept .1 .1 .1 .0, l .loop .inv .1 .0), omega (arith, o .once .kept .1 .1 .1 .1 .0, l .loop .inv .1 .1)))
+    let l = o .before .before .before .before .before .before .before .before in
+    (o .once .ensures .0, (omega (arith, o .once .kept .1 .1 .1 .1 .0, l .loop .inv .1 .0), omega (arith, o .once .kept .1 .1 .1 .1 .1 .0, l .loop .inv .1 .1)))
 
 pub run-spec : {M : Type 1} → statement M
 run-spec =

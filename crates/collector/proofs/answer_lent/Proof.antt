@@ -43,7 +43,7 @@ use denote.Triple.Table.{entered, cited}
 use denote.Triple.Walked.{says, Stays, stay-ref, stay-none, stay-none-slice, walkOf, AllGo, goes-ref, goes-none, goes-none-slice, Walks, ends-at, walked, walk-meets}
 use denote.Exit.{yes}
 use Rattle.base.specs.Verdict.{Gives}
-use Rattle.collector.specs.Collector.{taking}
+use Rattle.collector.specs.Stored.{takingStored}
 use Rattle.collector.specs.declared.Collector.{Collector}
 use Rattle.collector.specs.declared.Answered.{Answered}
 use Rattle.collector.proofs.Collector as T
@@ -83,7 +83,7 @@ module _ {M : Type 1} (𝓤 : URA M) (H : Heap 𝓤) (A : Atoms 𝓤) (W : Given
 
   -- what `answer` promises of its result
   abbrev Promised : Answered → Type 0
-  Promised r = Gives (taking h n (s .now)) h (r .verdict) (r .collector)
+  Promised r = Gives (takingStored h n (s .now)) h (r .verdict) (r .collector)
 
   abbrev Own : Fml
   Own = ShrSlice (named 1) κ′ u8 .own s (v ∷ [])

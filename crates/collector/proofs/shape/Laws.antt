@@ -10,7 +10,7 @@ use lib.ListN.{length, getD, set}
 use lib.Seq.{paste, getD-set-same, getD-set-other}
 use lib.Dec.{ltb, eqb}
 use borrow.Author.Tests.{eq-eqb, ne-eqb, lt-ltb, le-ltb, ltb-false}
-use Rattle.collector.specs.declared.Collector.{Collector}
+use Rattle.collector.specs.Parts.{Parts}
 use Rattle.collector.specs.declared.shape.Shape.{Shape}
 use Rattle.base.specs.Choice.{if_then_else_}
 use Rattle.collector.specs.Collector.{endOf, leastTo, lowest, marksFit, bytesFit, wellFormed, put, completeBy}
@@ -342,7 +342,7 @@ module _ (ms : List ℕ) (em : length ms ≡ 64) (i m : ℕ) (il : i < 64) (z : 
   marks-with = rw (← top-with, ← gap-with, ← most-with) (marks-by-shape (set ms i m))
 
 -- a part put in leaves the bytes' test as it was: only the marks are tested again
-pub put-test : (c : Collector) (i : ℕ) (d : List ℕ) → length (c .bytes) ≡ 1024 → length (c .marks) ≡ 64 → i < 64 → length d ≤ 16
+pub put-test : (c : Parts) (i : ℕ) (d : List ℕ) → length (c .bytes) ≡ 1024 → length (c .marks) ≡ 64 → i < 64 → length d ≤ 16
     → wellFormed c ≡ true → getD (c .marks) i 0 ≡ 0 → wellFormed (put c i d) ≡ marksFit (set (c .marks) i (suc (length d)))
 put-test c i d eb em il dl w z =
     let b : bytesFit (paste (c .bytes) (16 * i) d (length d)) (set (c .marks) i (suc (length d))) ≡ true =

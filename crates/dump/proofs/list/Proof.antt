@@ -2,8 +2,9 @@ use borrow.Author.Needs.{needs}
 use native.Mathlib.Omega.{arith}
 use mathlib.Core.Path.{sym, ap, _∙_}
 use lib.ListN.{length-take}
-use Rattle.collector.specs.Collector.{held, saidStatus}
-use Rattle.collector.proofs.Entries.{told-within}
+use Rattle.collector.specs.Collector.{saidStatus}
+use Rattle.collector.specs.Stored.{collectorOf}
+use Rattle.collector.proofs.Stored.{told-within}
 use Rattle.dump.proofs.Laws.{formless, lacked, list-told}
 use Rattle.dump.proofs.list.Statement.{statement}
 use Rattle.dump.proofs.list.Tie as tie
@@ -12,33 +13,33 @@ part-suites-end : tie.Need-part-suites-end
 part-suites-end c =
     let k = c .before .before in
     let a = k .before .before .before .before .args in
-    let l = told-within (held (a .bytes .now) (a .marks .now)) (k .status .given .0 .0) (sym (k .before .before .status-in .ensures) ∙ ap saidStatus (k .status .given .1)) in
+    let l = told-within (collectorOf (a .bytes .now) (a .marks .now) (a .known .now)) (k .status .given .0 .0) (sym (k .before .before .status-in .ensures) ∙ ap saidStatus (k .status .given .1)) in
     omega (arith, c .all .given .0)
 
 suites-requires : tie.Need-suites-requires
 suites-requires c κs =
     let k = c .before .before .before .before in
     let a = k .before .before .before .before .args in
-    let l = told-within (held (a .bytes .now) (a .marks .now)) (k .status .given .0 .0) (sym (k .before .before .status-in .ensures) ∙ ap saidStatus (k .status .given .1)) in
+    let l = told-within (collectorOf (a .bytes .now) (a .marks .now) (a .known .now)) (k .status .given .0 .0) (sym (k .before .before .status-in .ensures) ∙ ap saidStatus (k .status .given .1)) in
     rw length-take (omega arith)
 
 returns : tie.Need-returns
 returns c =
     let k = c .before .before .before .before .before .before .before in
     let a = k .before .before .before .before .args in
-    list-told (held (a .bytes .now) (a .marks .now)) (k .status .given .0 .0) (sym (k .before .before .status-in .ensures) ∙ ap saidStatus (k .status .given .1)) (c .before .before .suites .ensures)
+    list-told (collectorOf (a .bytes .now) (a .marks .now) (a .known .now)) (k .status .given .0 .0) (sym (k .before .before .status-in .ensures) ∙ ap saidStatus (k .status .given .1)) (c .before .before .suites .ensures)
 
 returns-2 : tie.Need-returns-2
 returns-2 c =
     let k = c .before .before .before .before .before in
     let a = k .before .before .before .before .args in
-    lacked (held (a .bytes .now) (a .marks .now)) (k .status2 .given .0 .0) (sym (k .before .before .status-in .ensures) ∙ ap saidStatus (k .status2 .given .1)) (c .before .before .missing-text .ensures)
+    lacked (collectorOf (a .bytes .now) (a .marks .now) (a .known .now)) (k .status2 .given .0 .0) (sym (k .before .before .status-in .ensures) ∙ ap saidStatus (k .status2 .given .1)) (c .before .before .missing-text .ensures)
 
 returns-3 : tie.Need-returns-3
 returns-3 c =
     let k = c .before .before .before .before .before in
     let a = k .before .before .before .before .args in
-    formless (held (a .bytes .now) (a .marks .now)) (sym (k .before .before .status-in .ensures) ∙ ap saidStatus (k .enum-told .given .1)) (rw (c .before .before .before .before .number .ensures) at (c .before .before .refused .ensures))
+    formless (collectorOf (a .bytes .now) (a .marks .now) (a .known .now)) (sym (k .before .before .status-in .ensures) ∙ ap saidStatus (k .enum-told .given .1)) (rw (c .before .before .before .before .number .ensures) at (c .before .before .refused .ensures))
 
 pub list-spec : {M : Type 1} → statement M
 list-spec =

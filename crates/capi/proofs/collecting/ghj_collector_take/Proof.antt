@@ -39,7 +39,7 @@ use Rattle.base.specs.Verdict.{Gives, saidVerdict}
 use Rattle.base.specs.declared.verdict.Verdict.{Verdict}
 use Rattle.base.proofs.verdict.Verdict as S
 use Rattle.base.proofs.verdict.Verdict.Laws as S′
-use Rattle.collector.specs.Collector.{taking}
+use Rattle.collector.specs.Stored.{takingStored}
 use Rattle.collector.specs.declared.Collector.{Collector}
 use Rattle.collector.proofs.Collector as T
 use Rattle.collector.proofs.answer_lent as g
@@ -99,7 +99,7 @@ module _ {M : Type 1} (𝓤 : URA M) (H : Heap 𝓤) (A : Atoms 𝓤) (W : Given
 
   -- what it promises of its result and of the last collector
   abbrev Promised : Verdict → Collector → Type 0
-  Promised r c = Gives (taking h n (s .now)) h r c
+  Promised r c = Gives (takingStored h n (s .now)) h r c
 
   abbrev to-code : Verdict → Val → Code 𝓤 H A mem run .Ghost
   to-code r u = ((tt, tt, tt, (r, tt), (u ∷ [], tt)), tt)
@@ -107,7 +107,7 @@ module _ {M : Type 1} (𝓤 : URA M) (H : Heap 𝓤) (A : Atoms 𝓤) (W : Given
   asked-code : (r : Verdict) (u : Val) → ent 𝓤 (sem 𝓤 H A (S.the-row .own r (u ∷ []))) (Code 𝓤 H A mem run .pre (to-code r u))
   asked-code r u = qed W (‵ (S.the-row .own r (u ∷ [])) ∷ []) ∵ nothing ! $ move ! (1 ∷ 0 ∷ []) $ join ! $ nothing ! $ join ! $ frame ! $ done !
 
-  exits : (m : ℕ) (c : Collector) (w : Val) → Takes (taking h n (s .now)) m h c
+  exits : (m : ℕ) (c : Collector) (w : Val) → Takes (takingStored h n (s .now)) m h c
       → ent 𝓤 (⋆ 𝓤 H A (‵ (u64 .own m (w ∷ [])) ∷ ‵ (fres γ (T.the-row .coded .code c)) ∷ (‵ (flft κ q) ⊛ ‵ (flft κ′ q′) ⊛ ‵ ftrue) ∷ ‵ Own ∷ [])) (Post w)
   exits m c w e =
       qed W (‵ (u64 .own m (w ∷ [])) ∷ ‵ (fres γ (T.the-row .coded .code c)) ∷ (‵ (flft κ q) ⊛ ‵ (flft κ′ q′) ⊛ ‵ ftrue) ∷ ‵ Own ∷ []) ∵

@@ -14,14 +14,14 @@ abbrev μ-loop : tie.MeasureT-loop
 μ-loop bytes marks from to acc₀ i₀ acc i = to - i
 
 loop-holds : tie.Need-loop-holds Inv-loop μ-loop
-loop-holds c = (omega arith, (omega arith, holes-none (c .args .bytes .now) (c .args .marks .now) (c .args .from)))
+loop-holds c = (omega arith, (omega arith, holes-none (c .before .before .args .bytes .now) (c .before .before .args .marks .now) (c .before .before .args .from)))
 
 loop-again : tie.Need-loop-again Inv-loop μ-loop
-loop-again c = (omega arith, (omega arith, rw (c .larger .ensures, c .before .hole .ensures, c .before .before .before .before .loop .inv .1 .1) (sym (holes-next (c .before .before .before .before .before .args .bytes .now) (c .before .before .before .before .before .args .marks .now) (c .before .before .before .before .before .args .from) (c .before .before .before .before .loop .i) (omega arith)))))
+loop-again c = (omega arith, (omega arith, rw (c .larger .ensures, c .before .hole .ensures, c .before .before .before .before .loop .inv .1 .1) (sym (holes-next (c .before .before .before .before .before .before .before .args .bytes .now) (c .before .before .before .before .before .before .before .args .marks .now) (c .before .before .before .before .before .before .before .args .from) (c .before .before .before .before .loop .i) (omega arith)))))
 
 returns : tie.Need-returns Inv-loop μ-loop
 returns c =
-    let a = c .before .before .args in
+    let a = c .before .before .before .before .args in
     let e : c .before .loop .i - a .from ≡ a .to - a .from = omega arith in
     c .before .loop .inv .1 .1 ∙ ap (holes (a .bytes .now) (a .marks .now) (a .from)) e
 

@@ -6,31 +6,31 @@ use Rattle.collector.proofs.shape.length_by.Statement.{statement}
 use Rattle.collector.proofs.shape.length_by.Tie as tie
 
 returns : tie.Need-returns
-returns c = low-empty _ _ (c .before .before .pre) (sym (c .before .wide .ensures) ∙ c .if1 .taken)
+returns c = low-empty _ _ (c .before .before .before .pre .0) (sym (c .before .wide .ensures) ∙ c .if1 .taken)
 
-element-copy-out-wide : tie.Need-element-copy-out-wide
-element-copy-out-wide c =
-    let k = c in
+shared-slice-read-wide : tie.Need-shared-slice-read-wide
+shared-slice-read-wide c =
+    let k = c .before in
     let w = k .before in
-    omega (arith, last-small _ _ (w .before .pre) _ (w .wide .ensures) (k .if1 .left))
+    omega (arith, w .before .before .pre .1, last-small _ _ (w .before .before .pre .0) _ (w .wide .ensures) (k .if1 .left))
 
 sub-result : tie.Need-sub-result
 sub-result c =
     let k = c .before .before in
     let w = k .before in
-    omega (arith, c .wide2 .ensures, last-filled _ _ (w .before .pre) _ (w .wide .ensures) (k .if1 .left))
+    omega (arith, c .wide2 .ensures, last-filled _ _ (w .before .before .pre .0) _ (w .wide .ensures) (k .if1 .left))
 
 add-result : tie.Need-add-result
 add-result c =
     let k = c .before .before in
     let w = k .before in
-    omega (arith, c .wide2 .ensures, last-small _ _ (w .before .pre) _ (w .wide .ensures) (k .if1 .left), last-most _ _ (w .before .pre) _ (w .wide .ensures) (k .if1 .left))
+    omega (arith, c .wide2 .ensures, last-small _ _ (w .before .before .pre .0) _ (w .wide .ensures) (k .if1 .left), last-most _ _ (w .before .before .pre .0) _ (w .wide .ensures) (k .if1 .left))
 
 returns-2 : tie.Need-returns-2
 returns-2 c =
     let k = c .before .before in
     let w = k .before in
-    rw (c .wide2 .ensures) (low-is _ _ (w .before .pre) _ (w .wide .ensures) (k .if1 .left))
+    rw (c .wide2 .ensures) (low-is _ _ (w .before .before .pre .0) _ (w .wide .ensures) (k .if1 .left))
 
 pub length-by-spec : {M : Type 1} → statement M
 length-by-spec =
@@ -40,7 +40,7 @@ length-by-spec =
     returns
     (search needs)
     (search needs)
-    element-copy-out-wide
+    shared-slice-read-wide
     (search needs)
     sub-result
     add-result

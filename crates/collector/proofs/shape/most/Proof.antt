@@ -21,7 +21,7 @@ loop-again : tie.Need-loop-again Inv-loop μ-loop
 loop-again c = (omega arith, rw (bytes-next, c .larger .ensures, c .before .before .before .loop .inv .1))
 
 returns : tie.Need-returns Inv-loop μ-loop
-returns c = let e : c .before .loop .j ≡ c .before .before .args .n = omega arith in c .before .loop .inv .1 ∙ ap (most (c .before .before .args .bytes .now) (c .before .before .args .at)) e
+returns c = let e : c .before .loop .j ≡ c .before .before .before .args .n = omega arith in c .before .loop .inv .1 ∙ ap (most (c .before .before .before .args .bytes .now) (c .before .before .before .args .at)) e
 
 pub most-spec : {M : Type 1} → statement M
 most-spec =

@@ -1,10 +1,10 @@
 use borrow.Author.Needs.{needs}
 use Rattle.base.proofs.little.Laws.{are-bytes}
-use Rattle.chandump.proofs.known.Statement.{statement}
-use Rattle.chandump.proofs.known.Tie as tie
+use Rattle.chandump.proofs.typed.Statement.{statement}
+use Rattle.chandump.proofs.typed.Tie as tie
 
 returns : tie.Need-returns
 returns c = record { bytes = search needs; marks = search needs; small = are-bytes (c .args .bytes) (λ k. search needs) }
 
-pub known-spec : {M : Type 1} → statement M
-known-spec = tie.close (tie.spec returns)
+pub typed-spec : {M : Type 1} → statement M
+typed-spec = tie.close (tie.spec returns)
