@@ -27,9 +27,9 @@
 #include <stdint.h>
 
 /* Of this header, the archive and the Rust crate; rust/CHANGELOG.md says what changed. */
-#define GHJ_VERSION "0.2.0"
+#define GHJ_VERSION "0.3.0"
 #define GHJ_VERSION_MAJOR 0
-#define GHJ_VERSION_MINOR 2
+#define GHJ_VERSION_MINOR 3
 #define GHJ_VERSION_PATCH 0
 
 #ifdef __cplusplus
@@ -221,6 +221,10 @@ static inline uint64_t ghj_number(const uint8_t *bytes, size_t length) {
 #define GHJ_PARTS 64
 #define GHJ_PART_SIZE 16
 #define GHJ_LAST_INDEX 0x3F
+
+/* Of a collector: all of its struct, and the two bytes behind its arrays. */
+#define GHJ_COLLECTOR_SIZE 1090
+#define GHJ_KNOWN_SIZE 2
 
 /* Requests: the data of each command at the start of `out`; the number is their length. The first argument at fault
  * decides, and GHJ_NO_ROOM comes last. The whole number of a type or level counts, as a command writes no reserved bits. */
@@ -445,43 +449,57 @@ uint64_t ghj_tagged_write(uint8_t owner, uint32_t vendor, uint8_t number, uint8_
  *
  *     struct ghj_collector collector = GHJ_FRESH;
  *
- * The functions below take its two arrays; those behind them take the struct. */
+ * The functions below take its three arrays, the last one being the fields lowest and complete; those behind them take the
+ * struct. All fields are the caller's to read alone: values that no calls make are refused with GHJ_NO_FORM. */
 struct ghj_collector {
-    uint8_t bytes[GHJ_LIST_SIZE];
-    uint8_t marks[GHJ_PARTS];
+    uint8_t bytes[GHJ_LIST_SIZE]; /* what was heard, at its place; zeros elsewhere */
+    uint8_t marks[GHJ_PARTS];     /* one more than a part's length; 0 where it was not heard */
+    uint8_t lowest;               /* the lowest unheard index; GHJ_PARTS where all were heard */
+    uint8_t complete;             /* 1 where the list is complete, else 0 */
 };
-#define GHJ_FRESH {{0}, {0}}
+#define GHJ_FRESH {{0}, {0}, 0, 0}
 
 /* The answer to an index: 0, or GHJ_NO_FORM, GHJ_BAD_INDEX, GHJ_TOO_MUCH_DATA, GHJ_DISAGREES, in this order. */
-uint64_t ghj_collector_answer(uint8_t bytes[1024], uint8_t marks[64], uint8_t index, const uint8_t *response,
-                              size_t response_length);
+uint64_t ghj_collector_answer(uint8_t bytes[1024], uint8_t marks[64], uint8_t known[2], uint8_t index,
+                              const uint8_t *response, size_t response_length);
 
 /* The same, the collector lent whole: by copies, so slower than ghj_collect_answer. */
 uint64_t ghj_collector_take(struct ghj_collector *collector, uint8_t index, const uint8_t *response,
                             size_t response_length);
 
 /* Complete: the list's length. Not: GHJ_IS_MISSING, and the lowest unheard index. Or GHJ_NO_FORM. */
-uint64_t ghj_collector_status(const uint8_t bytes[1024], const uint8_t marks[64]);
+uint64_t ghj_collector_status(const uint8_t bytes[1024], const uint8_t marks[64], const uint8_t known[2]);
 #define GHJ_IS_MISSING(number) (((number) >> 61) == 1)
 #define GHJ_MISSING(number) ((unsigned)((number) & 0xFF))
 
 /* The whole list, and the numbers of its suites: GHJ_NO_FORM, then GHJ_INCOMPLETE, then GHJ_NO_ROOM. */
-uint64_t ghj_collector_list(const uint8_t bytes[1024], const uint8_t marks[64], uint8_t *out, size_t out_length);
-uint64_t ghj_collector_suites(const uint8_t bytes[1024], const uint8_t marks[64], uint8_t *out, size_t out_length);
+uint64_t ghj_collector_list(const uint8_t bytes[1024], const uint8_t marks[64], const uint8_t known[2], uint8_t *out,
+                            size_t out_length);
+uint64_t ghj_collector_suites(const uint8_t bytes[1024], const uint8_t marks[64], const uint8_t known[2], uint8_t *out,
+                              size_t out_length);
+
+/* A struct's third array, its fields lowest and complete. From the struct's address: a pointer to lowest ends behind lowest. */
+static inline uint8_t *ghj_collect_known(struct ghj_collector *collector) {
+    return (uint8_t *)collector + offsetof(struct ghj_collector, lowest);
+}
+static inline const uint8_t *ghj_collect_known_const(const struct ghj_collector *collector) {
+    return (const uint8_t *)collector + offsetof(struct ghj_collector, lowest);
+}
 
 /* The same four on the struct. */
 static inline uint64_t ghj_collect_answer(struct ghj_collector *collector, uint8_t index, const uint8_t *response,
                                           size_t response_length) {
-    return ghj_collector_answer(collector->bytes, collector->marks, index, response, response_length);
+    return ghj_collector_answer(collector->bytes, collector->marks, ghj_collect_known(collector), index, response,
+                                response_length);
 }
 static inline uint64_t ghj_collect_status(const struct ghj_collector *collector) {
-    return ghj_collector_status(collector->bytes, collector->marks);
+    return ghj_collector_status(collector->bytes, collector->marks, ghj_collect_known_const(collector));
 }
 static inline uint64_t ghj_collect_list(const struct ghj_collector *collector, uint8_t *out, size_t out_length) {
-    return ghj_collector_list(collector->bytes, collector->marks, out, out_length);
+    return ghj_collector_list(collector->bytes, collector->marks, ghj_collect_known_const(collector), out, out_length);
 }
 static inline uint64_t ghj_collect_suites(const struct ghj_collector *collector, uint8_t *out, size_t out_length) {
-    return ghj_collector_suites(collector->bytes, collector->marks, out, out_length);
+    return ghj_collector_suites(collector->bytes, collector->marks, ghj_collect_known_const(collector), out, out_length);
 }
 
 #ifdef __cplusplus

@@ -2,10 +2,14 @@
 
 use crate::app::auth::CipherSuite;
 use crate::number::{accepted, certain, part};
-use crate::sys::{self, CAPACITY, MISSING, PARTS};
+use crate::sys::{self, CAPACITY, KNOWN, MISSING, PARTS};
 use crate::Error;
+use std::fmt;
 
 /// Joins a list that arrives sixteen bytes at a time, in any order. Not `Copy`: it holds a kilobyte.
+///
+/// Its `Debug` is one line, as `Collector { parts: 1, bytes: 16, status: Missing(1) }`: the parts that were heard, their
+/// bytes, and where it stands.
 ///
 /// ```
 /// use ghjalvestru::{Collector, Error, Status};
@@ -20,10 +24,11 @@ use crate::Error;
 /// assert_eq!(numbers, [3, 8, 17, 12]);
 /// # Ok::<(), Error>(())
 /// ```
-#[derive(Clone, Debug, PartialEq, Eq, Hash)]
+#[derive(Clone, PartialEq, Eq, Hash)]
 pub struct Collector {
     bytes: [u8; CAPACITY],
     marks: [u8; PARTS],
+    known: [u8; KNOWN],
 }
 
 /// What a collector has heard.
@@ -55,7 +60,24 @@ impl Default for Collector {
         Self {
             bytes: [0; CAPACITY],
             marks: [0; PARTS],
+            known: [0; KNOWN],
         }
+    }
+}
+
+impl fmt::Debug for Collector {
+    fn fmt(&self, f: &mut fmt::Formatter<'_>) -> fmt::Result {
+        // A mark is one more than its part's length.
+        let lengths = self.marks.iter().filter_map(|mark| mark.checked_sub(1));
+        let (parts, bytes) = lengths.fold((0, 0), |(parts, bytes), length| {
+            (parts + 1, bytes + usize::from(length))
+        });
+        let status = self.status();
+        // Written here, so that `{:#?}` makes no more lines of it.
+        write!(
+            f,
+            "Collector {{ parts: {parts}, bytes: {bytes}, status: {status:?} }}"
+        )
     }
 }
 
@@ -74,15 +96,20 @@ impl Collector {
     /// [`Error::BadIndex`] above 0x3F, [`Error::TooMuchData`] above sixteen bytes, [`Error::Disagrees`] where no list of at
     /// most 1,024 bytes explains this answer and those accepted, in this order.
     pub fn answer(&mut self, index: u8, response: &[u8]) -> Result<(), Error> {
-        let Self { bytes, marks } = self;
-        accepted(sys::collector_answer(bytes, marks, index, response)).map(drop)
+        let Self {
+            bytes,
+            marks,
+            known,
+        } = self;
+        accepted(sys::collector_answer(bytes, marks, known, index, response)).map(drop)
     }
 
     /// Is the list complete?
     #[must_use]
     pub fn status(&self) -> Status {
-        // No other code touches the two arrays, so they are what calls make of fresh ones.
-        let number = certain(accepted(sys::collector_status(&self.bytes, &self.marks)));
+        // No other code touches the three arrays, so they are what calls make of fresh ones.
+        let number = sys::collector_status(&self.bytes, &self.marks, &self.known);
+        let number = certain(accepted(number));
         match number.checked_sub(MISSING) {
             Some(index) => Status::Missing(index as u8),
             None => Status::Complete(number as usize),
@@ -95,7 +122,7 @@ impl Collector {
     ///
     /// [`Error::Incomplete`] with the lowest unheard index.
     pub fn list(&self) -> Result<Vec<u8>, Error> {
-        part::<CAPACITY>(|out| sys::collector_list(&self.bytes, &self.marks, out))
+        part::<CAPACITY>(|out| sys::collector_list(&self.bytes, &self.marks, &self.known, out))
     }
 
     /// The suites of the whole list, up to the first step of its reading that gives none.
@@ -104,7 +131,9 @@ impl Collector {
     ///
     /// [`Error::Incomplete`] with the lowest unheard index.
     pub fn suites(&self) -> Result<Vec<CipherSuite>, Error> {
-        let numbers = part::<CAPACITY>(|out| sys::collector_suites(&self.bytes, &self.marks, out))?;
+        let numbers = part::<CAPACITY>(|out| {
+            sys::collector_suites(&self.bytes, &self.marks, &self.known, out)
+        })?;
         Ok(numbers.into_iter().map(CipherSuite::of_the_table).collect())
     }
 }
@@ -150,6 +179,54 @@ mod tests {
         assert_eq!(collector, before);
     }
 
+    /// One line, whatever it holds.
+    #[test]
+    fn shown_in_one_line() {
+        let shows = |collector: &Collector, text: &str| {
+            assert_eq!(format!("{collector:?}"), text);
+            assert_eq!(format!("{collector:#?}"), text);
+        };
+        let mut collector = Collector::new();
+        shows(
+            &collector,
+            "Collector { parts: 0, bytes: 0, status: Missing(0) }",
+        );
+        collector.answer(0, &[1; 16]).unwrap();
+        collector.answer(2, &[]).unwrap();
+        shows(
+            &collector,
+            "Collector { parts: 2, bytes: 16, status: Missing(1) }",
+        );
+        collector.answer(1, &[2; 3]).unwrap();
+        shows(
+            &collector,
+            "Collector { parts: 3, bytes: 19, status: Complete(19) }",
+        );
+        let mut whole = Collector::new();
+        (0..=0x3F).for_each(|index| whole.answer(index, &[0xFF; 16]).unwrap());
+        shows(
+            &whole,
+            "Collector { parts: 64, bytes: 1024, status: Complete(1024) }",
+        );
+    }
+
+    /// What is stored is what a search over the marks finds, after each answer.
+    #[test]
+    fn stored_as_heard() {
+        let mut collector = Collector::new();
+        assert_eq!(collector.known, [0, 0]);
+        for (index, length, known) in [
+            (2, 0, [0, 0]),
+            (0, 16, [1, 0]),
+            (1, 3, [3, 1]),
+            (4, 0, [3, 1]),
+            (3, 0, [5, 1]),
+        ] {
+            collector.answer(index, &[7; 16][..length]).unwrap();
+            assert_eq!(collector.known, known);
+        }
+    }
+
     /// A full last part ends the list.
     #[test]
     fn the_longest_list() {
@@ -159,6 +236,7 @@ mod tests {
             collector.answer(index, &[index; 16]).unwrap();
         }
         assert_eq!(collector.status(), Status::Complete(1024));
+        assert_eq!(collector.known, [64, 1]);
         assert_eq!(collector.list().unwrap().len(), 1024);
     }
 }

@@ -15,6 +15,9 @@ pub const SETTINGS: usize = 2 * ACCESS;
 pub const CAPACITY: usize = 1024;
 /// How many parts a collector holds.
 pub const PARTS: usize = 64;
+/// How many bytes a collector knows of its parts: the lowest unheard index, [`PARTS`] where all were heard; 1 where the list is
+/// complete, else 0. A collector with others than a search finds is refused.
+pub const KNOWN: usize = 2;
 /// How many bytes [`tagged_step`] writes of a record.
 pub const TAGGED: usize = 32;
 /// How many bytes [`tagged_listing`] writes for each record.
@@ -303,6 +306,7 @@ unsafe extern "C" {
     fn ghj_collector_answer(
         bytes: &mut [u8; CAPACITY],
         marks: &mut [u8; PARTS],
+        known: &mut [u8; KNOWN],
         index: u8,
         response: *const u8,
         response_length: usize,
@@ -313,16 +317,22 @@ unsafe extern "C" {
         response: *const u8,
         response_length: usize,
     ) -> u64;
-    safe fn ghj_collector_status(bytes: &[u8; CAPACITY], marks: &[u8; PARTS]) -> u64;
+    safe fn ghj_collector_status(
+        bytes: &[u8; CAPACITY],
+        marks: &[u8; PARTS],
+        known: &[u8; KNOWN],
+    ) -> u64;
     fn ghj_collector_list(
         bytes: &[u8; CAPACITY],
         marks: &[u8; PARTS],
+        known: &[u8; KNOWN],
         out: *mut u8,
         out_length: usize,
     ) -> u64;
     fn ghj_collector_suites(
         bytes: &[u8; CAPACITY],
         marks: &[u8; PARTS],
+        known: &[u8; KNOWN],
         out: *mut u8,
         out_length: usize,
     ) -> u64;
@@ -332,11 +342,13 @@ unsafe extern "C" {
 pub fn collector_answer(
     bytes: &mut [u8; CAPACITY],
     marks: &mut [u8; PARTS],
+    known: &mut [u8; KNOWN],
     index: u8,
     response: &[u8],
 ) -> u64 {
+    let (start, length) = (response.as_ptr(), response.len());
     // SAFETY: the pointer goes with its slice's length; the references are C's to use for this call.
-    unsafe { ghj_collector_answer(bytes, marks, index, response.as_ptr(), response.len()) }
+    unsafe { ghj_collector_answer(bytes, marks, known, index, start, length) }
 }
 
 /// A collector as C has it, for [`collector_take`].
@@ -347,7 +359,14 @@ pub struct Lent {
     pub bytes: [u8; CAPACITY],
     /// One more than each part's length; 0 where it was not heard.
     pub marks: [u8; PARTS],
+    /// The lowest unheard index; [`PARTS`] where all were heard.
+    pub lowest: u8,
+    /// 1 where the list is complete, else 0.
+    pub complete: u8,
 }
+
+// As in C, without holes.
+const _: () = assert!(size_of::<Lent>() == CAPACITY + PARTS + KNOWN);
 
 /// The same as [`collector_answer`], the collector lent whole: by copies, so slower.
 pub fn collector_take(collector: &mut Lent, index: u8, response: &[u8]) -> u64 {
@@ -357,18 +376,28 @@ pub fn collector_take(collector: &mut Lent, index: u8, response: &[u8]) -> u64 {
 
 /// Whether a collector is complete.
 #[must_use]
-pub fn collector_status(bytes: &[u8; CAPACITY], marks: &[u8; PARTS]) -> u64 {
-    ghj_collector_status(bytes, marks)
+pub fn collector_status(bytes: &[u8; CAPACITY], marks: &[u8; PARTS], known: &[u8; KNOWN]) -> u64 {
+    ghj_collector_status(bytes, marks, known)
 }
 
 /// The list of a collector.
-pub fn collector_list(bytes: &[u8; CAPACITY], marks: &[u8; PARTS], out: &mut [u8]) -> u64 {
+pub fn collector_list(
+    bytes: &[u8; CAPACITY],
+    marks: &[u8; PARTS],
+    known: &[u8; KNOWN],
+    out: &mut [u8],
+) -> u64 {
     // SAFETY: the pointer goes with its slice's length, and `out` is lent to this call alone.
-    unsafe { ghj_collector_list(bytes, marks, out.as_mut_ptr(), out.len()) }
+    unsafe { ghj_collector_list(bytes, marks, known, out.as_mut_ptr(), out.len()) }
 }
 
 /// The numbers of the suites of a collector's list.
-pub fn collector_suites(bytes: &[u8; CAPACITY], marks: &[u8; PARTS], out: &mut [u8]) -> u64 {
+pub fn collector_suites(
+    bytes: &[u8; CAPACITY],
+    marks: &[u8; PARTS],
+    known: &[u8; KNOWN],
+    out: &mut [u8],
+) -> u64 {
     // SAFETY: as for the list.
-    unsafe { ghj_collector_suites(bytes, marks, out.as_mut_ptr(), out.len()) }
+    unsafe { ghj_collector_suites(bytes, marks, known, out.as_mut_ptr(), out.len()) }
 }

@@ -93,16 +93,17 @@ static void lists(void) {
 
 static void collectors(void) {
     struct ghj_collector c = GHJ_FRESH;
-    SAME(ghj_collector_list(c.bytes, c.marks, out, 0), REFUSED(GHJ_INCOMPLETE));
-    SAME(ghj_collector_suites(c.bytes, c.marks, out, 0), REFUSED(GHJ_INCOMPLETE));
-    SAME(ghj_collector_answer(c.bytes, c.marks, 0, in, 0), 0);
+    uint8_t *known = ghj_collect_known(&c);
+    SAME(ghj_collector_list(c.bytes, c.marks, known, out, 0), REFUSED(GHJ_INCOMPLETE));
+    SAME(ghj_collector_suites(c.bytes, c.marks, known, out, 0), REFUSED(GHJ_INCOMPLETE));
+    SAME(ghj_collector_answer(c.bytes, c.marks, known, 0, in, 0), 0);
     SAME(ghj_collector_take(&c, 0, in, 0), 0);
-    SAME(ghj_collector_list(c.bytes, c.marks, out, 0), 0);
-    SAME(ghj_collector_suites(c.bytes, c.marks, out, 0), 0);
+    SAME(ghj_collector_list(c.bytes, c.marks, known, out, 0), 0);
+    SAME(ghj_collector_suites(c.bytes, c.marks, known, out, 0), 0);
     c = (struct ghj_collector)GHJ_FRESH;
-    SAME(ghj_collector_answer(c.bytes, c.marks, 0, list, 5), 0);
-    SAME(ghj_collector_list(c.bytes, c.marks, out, 0), REFUSED(GHJ_NO_ROOM));
-    SAME(ghj_collector_suites(c.bytes, c.marks, out, 0), REFUSED(GHJ_NO_ROOM));
+    SAME(ghj_collector_answer(c.bytes, c.marks, known, 0, list, 5), 0);
+    SAME(ghj_collector_list(c.bytes, c.marks, known, out, 0), REFUSED(GHJ_NO_ROOM));
+    SAME(ghj_collector_suites(c.bytes, c.marks, known, out, 0), REFUSED(GHJ_NO_ROOM));
 }
 
 int main(void) {

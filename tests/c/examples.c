@@ -437,37 +437,65 @@ static void tagged_forms(void) {
 
 static uint64_t answer(struct ghj_collector *c, uint8_t index, const uint8_t *part, size_t length) {
     struct ghj_collector other = *c;
-    uint64_t number = ghj_collector_answer(c->bytes, c->marks, index, part, length);
+    uint64_t number = ghj_collector_answer(c->bytes, c->marks, ghj_collect_known(c), index, part, length);
     check("lent whole", ghj_collector_take(&other, index, part, length) == number && memcmp(c, &other, sizeof other) == 0);
     return number;
+}
+
+static int stored(const struct ghj_collector *c, unsigned lowest, unsigned complete) {
+    return c->lowest == lowest && c->complete == complete;
+}
+
+/* Refused with 9 at every entry, which changes nothing. */
+static void no_form(const struct ghj_collector *c) {
+    static const uint8_t untouched[64];
+    struct ghj_collector after = *c;
+    uint8_t out[64] = {0};
+    check("no form", refused(answer(&after, 0, untouched, 0), GHJ_NO_FORM, 0));
+    check("no form", refused(ghj_collect_status(c), GHJ_NO_FORM, 0));
+    check("no form", refused(ghj_collect_list(c, out, sizeof out), GHJ_NO_FORM, 0));
+    check("no form", refused(ghj_collect_suites(c, out, sizeof out), GHJ_NO_FORM, 0));
+    check("no form", memcmp(c, &after, sizeof after) == 0 && memcmp(out, untouched, sizeof out) == 0);
 }
 
 static void collectors(void) {
     static const uint8_t part[17] = {0xC0, 0x03, 0x01, 0x41, 0x81};
     uint8_t out[64];
+    struct ghj_collector c = GHJ_FRESH;
+    const uint8_t *known = ghj_collect_known_const(&c);
     /* P11 */
-    struct ghj_collector c = {{0}, {0}};
-    check("P11", answer(&c, 0, part, 0) == 0 && ghj_collector_status(c.bytes, c.marks) == 0);
+    check("P11", answer(&c, 0, part, 0) == 0 && ghj_collector_status(c.bytes, c.marks, known) == 0);
+    check("P11", stored(&c, 1, 1));
     /* P12 */
-    c = (struct ghj_collector){{0}, {0}};
-    check("P12", answer(&c, 0, part, 16) == 0 && answer(&c, 2, part, 0) == 0);
-    uint64_t status = ghj_collector_status(c.bytes, c.marks);
+    c = (struct ghj_collector)GHJ_FRESH;
+    check("P12", stored(&c, 0, 0) && answer(&c, 0, part, 16) == 0 && stored(&c, 1, 0));
+    check("P12", answer(&c, 2, part, 0) == 0 && stored(&c, 1, 0));
+    uint64_t status = ghj_collector_status(c.bytes, c.marks, known);
     check("P12", GHJ_IS_MISSING(status) && GHJ_MISSING(status) == 1);
-    check("P12", refused(ghj_collector_list(c.bytes, c.marks, out, sizeof out), GHJ_INCOMPLETE, 1));
-    check("P12", answer(&c, 1, part, 3) == 0 && ghj_collector_status(c.bytes, c.marks) == 19);
-    check("P12", ghj_collector_list(c.bytes, c.marks, out, sizeof out) == 19 && memcmp(out, part, 16) == 0);
-    check("P12", ghj_collector_suites(c.bytes, c.marks, out, sizeof out) == 1 && out[0] == 3);
+    check("P12", refused(ghj_collector_list(c.bytes, c.marks, known, out, sizeof out), GHJ_INCOMPLETE, 1));
+    check("P12", answer(&c, 1, part, 3) == 0 && ghj_collector_status(c.bytes, c.marks, known) == 19);
+    check("P12", stored(&c, 3, 1));
+    check("P12", ghj_collector_list(c.bytes, c.marks, known, out, sizeof out) == 19 && memcmp(out, part, 16) == 0);
+    check("P12", ghj_collector_suites(c.bytes, c.marks, known, out, sizeof out) == 1 && out[0] == 3);
+    /* Other stored values than a search finds. */
+    c.lowest = 2;
+    no_form(&c);
+    c.lowest = 3;
+    c.complete = 0;
+    no_form(&c);
+    c.complete = 1;
+    check("stored", ghj_collect_status(&c) == 19);
     /* P13 */
-    c = (struct ghj_collector){{0}, {0}};
+    c = (struct ghj_collector)GHJ_FRESH;
     check("P13", answer(&c, 1, part, 3) == 0 && refused(answer(&c, 2, part, 1), GHJ_DISAGREES, 0));
+    check("P13", stored(&c, 0, 0));
     /* Sixteen bytes accepted at index 63; seventeen refused 2. */
-    c = (struct ghj_collector){{0}, {0}};
+    c = (struct ghj_collector)GHJ_FRESH;
     check("index 63", refused(answer(&c, 63, part, 17), GHJ_TOO_MUCH_DATA, 0) && answer(&c, 63, part, 16) == 0);
     check("index 64", refused(answer(&c, 64, part, 0), GHJ_BAD_INDEX, 0));
     /* No calls make this one. */
     c.bytes[5] = 1;
-    check("no form", refused(answer(&c, 0, part, 0), GHJ_NO_FORM, 0));
-    check("no form", refused(ghj_collector_status(c.bytes, c.marks), GHJ_NO_FORM, 0));
+    no_form(&c);
 }
 
 int main(void) {

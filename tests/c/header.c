@@ -14,6 +14,9 @@ static void check(const char *what, int holds) {
     }
 }
 
+/* Not compiled where the struct has holes or another size. */
+typedef char collector_size[sizeof(struct ghj_collector) == GHJ_COLLECTOR_SIZE ? 1 : -1];
+
 static void sizes(void) {
     check("sizes", sizeof(struct ghj_access_record) == GHJ_ACCESS_SIZE);
     check("sizes", sizeof(struct ghj_set_access_record) == GHJ_SET_ACCESS_SIZE);
@@ -25,7 +28,7 @@ static void sizes(void) {
     check("sizes", sizeof(struct ghj_algorithms_record) == GHJ_ALGORITHMS_SIZE);
     check("sizes", sizeof(struct ghj_tagged_record) == GHJ_TAGGED_SIZE);
     check("sizes", sizeof(struct ghj_tagged_entry) == GHJ_TAGGED_ENTRY_SIZE);
-    check("sizes", sizeof(struct ghj_collector) == GHJ_LIST_SIZE + GHJ_PARTS);
+    check("sizes", GHJ_COLLECTOR_SIZE == GHJ_LIST_SIZE + GHJ_PARTS + GHJ_KNOWN_SIZE);
     check("sizes", GHJ_LIST_SIZE == GHJ_PARTS * GHJ_PART_SIZE && GHJ_LAST_INDEX == GHJ_PARTS - 1);
 }
 
@@ -216,9 +219,13 @@ static void collected(void) {
     for (unsigned i = 0; i < GHJ_PARTS; i++) {
         uint64_t status = ghj_collect_status(&collector);
         check("collected", GHJ_IS_MISSING(status) && GHJ_MISSING(status) == i);
+        check("collected", collector.lowest == i && collector.complete == 0);
         check("collected", ghj_collect_answer(&collector, (uint8_t)i, list + GHJ_PART_SIZE * i, GHJ_PART_SIZE) == 0);
     }
     check("collected", ghj_collect_status(&collector) == GHJ_LIST_SIZE);
+    check("collected", collector.lowest == GHJ_PARTS && collector.complete == 1);
+    check("collected", ghj_collect_known(&collector) == &collector.lowest);
+    check("collected", ghj_collect_known_const(&collector) + 1 == &collector.complete);
     check("collected", ghj_collect_list(&collector, out, sizeof out) == GHJ_LIST_SIZE);
     check("collected", memcmp(list, out, sizeof list) == 0);
     check("collected", ghj_collect_suites(&collector, numbers, sizeof numbers) == GHJ_LIST_SUITES);
