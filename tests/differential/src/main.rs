@@ -1,9 +1,10 @@
 //! The port, through C: its collector against the model, on the recorded questions and, with the word `million`, on a million
-//! random histories; its records with tags against the model, and all else against the Rust crate, on `rounds=N` random
-//! turns a function from `seed=N`.
+//! random histories, and with forged stored bytes; its records with tags against the model, and all else against the Rust
+//! crate, on `rounds=N` random turns a function from `seed=N`.
 
 #[cfg(feature = "oracle")]
 mod against;
+mod forged;
 #[cfg_attr(not(feature = "oracle"), allow(dead_code))]
 mod held;
 #[cfg_attr(not(feature = "oracle"), allow(dead_code))]
@@ -34,6 +35,7 @@ fn main() {
     if asked.million {
         same &= million();
     }
+    same &= forged::all(asked.seed, asked.rounds);
     same &= records::all(asked.seed, asked.rounds);
     same &= readers(&asked);
     if !same {
@@ -75,6 +77,7 @@ fn recorded() -> bool {
     println!(
         "collector: {count} recorded questions, {differ} answered otherwise than by the model"
     );
+    stored();
     differ == 0
 }
 
@@ -87,7 +90,16 @@ fn million() -> bool {
         "NOT the model's"
     };
     println!("collector: all pairs and 1,048,576 random histories: hash {hash}, {whose}");
+    stored();
     same
+}
+
+/// The statuses are said by what is stored; another than a search finds would have ended the run.
+fn stored() {
+    let answers = port::heard();
+    println!(
+        "collector: what is stored after each of these {answers} answers is what a search finds"
+    );
 }
 
 #[cfg(feature = "oracle")]

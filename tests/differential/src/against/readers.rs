@@ -2,7 +2,7 @@
 
 use crate::held::{refused, refused_with, Expected, Held};
 use crate::inputs::{damaged, each_byte, each_length, each_prefix, each_short, Random};
-use ghjalvestru::sys::{self, CAPACITY, PARTS};
+use ghjalvestru::sys::{self, CAPACITY, KNOWN, PARTS};
 use oracle_core::app::auth::{
     ActivateSession, AuthError, ChannelCipherSuites, GetChannelAuthenticationCapabilities,
     GetChannelCipherSuites, GetSessionChallenge,
@@ -114,20 +114,20 @@ fn collected_suites(random: &mut Random, rounds: u64) -> Held {
     for _ in 0..rounds {
         let mut list = usual_list(random);
         list.truncate(CAPACITY);
-        let (mut bytes, mut marks) = ([0; CAPACITY], [0; PARTS]);
+        let (mut bytes, mut marks, mut known) = ([0; CAPACITY], [0; PARTS], [0; KNOWN]);
         let mut unheard: Vec<u8> = (0..=(list.len() / PART).min(PARTS - 1) as u8).collect();
         while let Some(&lowest) = unheard.iter().min() {
             let incomplete = Err(refused_with(13, lowest));
             held.writes(&list, &incomplete, |_, out| {
-                sys::collector_suites(&bytes, &marks, out)
+                sys::collector_suites(&bytes, &marks, &known, out)
             });
             let index = unheard.swap_remove(random.below(unheard.len()));
             let part = list.chunks(PART).nth(index.into()).unwrap_or(&[]);
-            let number = sys::collector_answer(&mut bytes, &mut marks, index, part);
+            let number = sys::collector_answer(&mut bytes, &mut marks, &mut known, index, part);
             held.says(&[&[index], part].concat(), 0, number);
         }
         held.writes(&list, &suite_numbers(&list), |_, out| {
-            sys::collector_suites(&bytes, &marks, out)
+            sys::collector_suites(&bytes, &marks, &known, out)
         });
     }
     held
