@@ -315,9 +315,12 @@ fn writer_row(row: &Writing) {
 }
 
 fn port_answer(c: &mut Plain, index: u8, part: &[u8]) -> u64 {
-    unsafe {
-        port::ghj_collector_answer(&mut c.bytes, &mut c.marks, index, part.as_ptr(), part.len())
-    }
+    let Plain {
+        bytes,
+        marks,
+        known,
+    } = c;
+    unsafe { port::ghj_collector_answer(bytes, marks, known, index, part.as_ptr(), part.len()) }
 }
 
 /// The collector lent whole: by the step by value.
@@ -336,13 +339,18 @@ fn no_answer(c: &mut Plain, _: u8, _: &[u8]) -> u64 {
 
 type Answer = fn(&mut Plain, u8, &[u8]) -> u64;
 
-/// A list of 1,024 bytes, heard whole in order from a fresh collector: 64 answers and the fresh state.
+/// A list that is heard in order from a fresh collector: of 1,024 bytes, 64 answers and the fresh state.
 fn heard(list: &[u8], hear: Answer) -> Plain {
     let mut collector = Plain::FRESH;
     for (i, part) in list.chunks(PART).enumerate() {
         assert_eq!(hear(&mut collector, i as u8, part), 0);
     }
     collector
+}
+
+/// The first half of its parts, which are full.
+fn half_heard(list: &[u8]) -> Plain {
+    heard(&list[..list.len() / 2], plain_answer)
 }
 
 fn new_answers(name: &str, list: &[u8], way: Answer) {
@@ -390,18 +398,40 @@ fn one_answer(name: &str, start: &Plain, index: u8, part: &[u8]) {
     );
 }
 
-fn status_row(whole: &Plain) {
+/// A status as C's number.
+type Asking = fn(&Plain) -> u64;
+
+fn port_status(c: &Plain) -> u64 {
+    unsafe { port::ghj_collector_status(&c.bytes, &c.marks, &c.known) }
+}
+
+fn plain_status(c: &Plain) -> u64 {
+    match c.tested_standing() {
+        Some(Ok(length)) => length as u64,
+        Some(Err(index)) => 1 << 61 | u64::from(index),
+        None => 1 << 63 | 9,
+    }
+}
+
+#[inline(never)]
+fn no_status(c: &Plain) -> u64 {
+    u64::from(black_box(c).marks[0])
+}
+
+const WHOLE: &str = "status of a whole list";
+const HALF: &str = "status of a half-heard list";
+
+fn status_row(name: &str, collector: &Plain) {
+    assert_eq!(port_status(collector), plain_status(collector));
+    let asked = |way: Asking| {
+        black_box(way(black_box(collector)));
+    };
     compare(
-        "status of a whole list",
+        name,
         1,
         &mut [
-            Some(&mut || {
-                let c = black_box(whole);
-                black_box(unsafe { port::ghj_collector_status(&c.bytes, &c.marks) });
-            }),
-            Some(&mut || {
-                black_box(black_box(whole).tested_standing());
-            }),
+            Some(&mut || asked(port_status)),
+            Some(&mut || asked(plain_status)),
             None,
             None,
         ],
@@ -425,7 +455,8 @@ fn collector_rows() {
         5,
         &list[5 * PART..6 * PART],
     );
-    status_row(&whole);
+    status_row(WHOLE, &whole);
+    status_row(HALF, &half_heard(&list));
 }
 
 /// So many passes over a row's inputs by one of its ways: the port, the crate, or a call that does nothing.
@@ -468,6 +499,18 @@ fn few_answers(way: &str, passes: usize) {
     }
 }
 
+/// The same of a collector's status, a hundred calls a pass.
+fn few_statuses(collector: &Plain, way: &str, passes: usize) {
+    let ask: Asking = match way {
+        "port" => port_status,
+        "called" => plain_status,
+        _ => no_status,
+    };
+    for _ in 0..100 * passes {
+        black_box(ask(black_box(collector)));
+    }
+}
+
 /// The words of a counter: none for a list of the rows, with how many calls a pass has; or a row, a way, passes.
 fn counted(words: &[String]) {
     let rows = rows();
@@ -477,6 +520,10 @@ fn counted(words: &[String]) {
         match (rows.iter().find(|r| r.name == row), writing) {
             (Some(row), _) => few(row, way, passes),
             (None, Some(writing)) => few_writings(writing, way, passes),
+            (None, None) if row == WHOLE => {
+                few_statuses(&heard(&full_list(), plain_answer), way, passes)
+            }
+            (None, None) if row == HALF => few_statuses(&half_heard(&full_list()), way, passes),
             (None, None) => few_answers(way, passes),
         }
         return;
@@ -489,6 +536,7 @@ fn counted(words: &[String]) {
     }
     println!("a new answer, arrays lent\t64\tport");
     println!("a new answer, collector lent\t64\tlent");
+    println!("{WHOLE}\t100\tport\n{HALF}\t100\tport");
 }
 
 fn main() {

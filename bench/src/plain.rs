@@ -6,18 +6,21 @@ use crate::called::{placed, refused, NO_ROOM};
 pub const PART: usize = 16;
 pub const CAPACITY: usize = 1024;
 pub const PARTS: usize = 64;
+pub const KNOWN: usize = 2;
 
 #[derive(Clone, Copy, PartialEq)]
 #[repr(C)]
 pub struct Plain {
     pub bytes: [u8; CAPACITY],
     pub marks: [u8; PARTS],
+    pub known: [u8; KNOWN],
 }
 
 impl Plain {
     pub const FRESH: Self = Self {
         bytes: [0; CAPACITY],
         marks: [0; PARTS],
+        known: [0; KNOWN],
     };
 
     /// The least length of a list that has every heard part.
@@ -34,6 +37,14 @@ impl Plain {
         .unwrap_or(0)
     }
 
+    /// The lowest unheard index, and whether the list is complete.
+    fn found(&self) -> [u8; KNOWN] {
+        let lowest = self.marks.iter().position(|&mark| mark == 0);
+        let lowest = lowest.unwrap_or(PARTS);
+        let ended = lowest > 0 && usize::from(self.marks[lowest - 1]) <= PART;
+        [lowest as u8, u8::from(lowest == PARTS || ended)]
+    }
+
     fn well_formed(&self) -> bool {
         let n = self.least();
         let marks = self.marks.iter().enumerate().all(|(i, &mark)| {
@@ -48,6 +59,7 @@ impl Plain {
                     let heard = usize::from(mark).saturating_sub(1).min(PART);
                     part[heard..].iter().all(|&byte| byte == 0)
                 })
+            && self.known == self.found()
     }
 
     /// 0, or the refusal's number.
@@ -81,6 +93,7 @@ impl Plain {
             return 12;
         }
         self.bytes[place..place + part.len()].copy_from_slice(part);
+        self.known = self.found();
         0
     }
 
@@ -90,15 +103,12 @@ impl Plain {
         self.well_formed().then(|| self.standing())
     }
 
-    /// The length of the list, or the lowest unheard index.
+    /// The length of the list, or the lowest unheard index: by what is stored.
     pub fn standing(&self) -> Result<usize, u8> {
-        let Some(lowest) = self.marks.iter().position(|&mark| mark == 0) else {
-            return Ok(self.least());
-        };
-        if lowest > 0 && usize::from(self.marks[lowest - 1]) <= PART {
-            return Ok(self.least());
+        match self.known {
+            [_, 1] => Ok(self.least()),
+            [lowest, _] => Err(lowest),
         }
-        Err(lowest as u8)
     }
 }
 

@@ -1,6 +1,6 @@
 //! The port's C functions, as include/ghjalvestru.h has them.
 
-use crate::plain::{Plain, CAPACITY, PARTS};
+use crate::plain::{Plain, CAPACITY, KNOWN, PARTS};
 
 extern "C" {
     pub fn ghj_access(response: *const u8, length: usize, out: *mut u8, room: usize) -> u64;
@@ -22,6 +22,7 @@ extern "C" {
     pub fn ghj_collector_answer(
         bytes: *mut [u8; CAPACITY],
         marks: *mut [u8; PARTS],
+        known: *mut [u8; KNOWN],
         index: u8,
         response: *const u8,
         length: usize,
@@ -32,5 +33,9 @@ extern "C" {
         response: *const u8,
         length: usize,
     ) -> u64;
-    pub fn ghj_collector_status(bytes: *const [u8; CAPACITY], marks: *const [u8; PARTS]) -> u64;
+    pub fn ghj_collector_status(
+        bytes: *const [u8; CAPACITY],
+        marks: *const [u8; PARTS],
+        known: *const [u8; KNOWN],
+    ) -> u64;
 }
