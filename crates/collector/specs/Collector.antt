@@ -82,7 +82,7 @@ marksFit marks = allBelow parts (λ i. markFits (leastTo marks parts) i (getD ma
 unfoldable pub bytesFit : List ℕ → List ℕ → Bool
 bytesFit bytes marks = allBelow capacity (λ k. byteFits (getD marks (k / partLength) 0) (k % partLength) (getD bytes k 0))
 
--- it passes exactly for the parts that calls make from fresh ones (proofs/Demand.antt)
+-- the test of the parts: it passes exactly for those that calls make from fresh ones (proofs/Demand.antt)
 abbrev pub wellFormed : Parts → Bool
 wellFormed c = marksFit (c .marks) and bytesFit (c .bytes) (c .marks)
 
@@ -125,7 +125,7 @@ completeBy marks = (lowest marks parts =? parts) or ((0 <? lowest marks parts) a
 unfoldable pub isComplete : Parts → Bool
 isComplete c = completeBy (c .marks)
 
--- where they stand: complete, with its list's length, or not, with the lowest unheard index
+-- where they stand: complete, with the list's length, or not, with the lowest unheard index
 pub data Standing : Type 0 where
   complete : ℕ → Standing
   missing : ℕ → Standing
