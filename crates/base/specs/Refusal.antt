@@ -1,9 +1,9 @@
--- Document 01, "Refusal numbers"; document 02, C-14: "16 BadRecord with the place".
+-- Document 01, "Refusal numbers"; document 02, C-12: "15 WrongChannel"; C-14: "16 BadRecord with the place".
 use Prim.Native.Nat.{ℕ}
 use mathlib.Core.List.{List, [], _∷_}
 use Rattle.base.specs.Outcome.{Outcome, refused}
 use Rattle.base.specs.declared.refusal.Refusal.{Refusal}
-use Rattle.base.specs.declared.refusal.Refusal.the-variants.{NotEnoughData, TooMuchData, InvalidZeroSession, InvalidAuthType, InvalidPrivilegeLevel, NoChannel, BadIndex, LongName, NoForm, NotARequest, NoRoom, Disagrees, Incomplete, BadLine, BadRecord}
+use Rattle.base.specs.declared.refusal.Refusal.the-variants.{NotEnoughData, TooMuchData, InvalidZeroSession, InvalidAuthType, InvalidPrivilegeLevel, NoChannel, BadIndex, LongName, NoForm, NotARequest, NoRoom, Disagrees, Incomplete, BadLine, WrongChannel, BadRecord}
 
 -- each refusal's number, and the values that it carries
 abbrev pub row : Refusal → ℕ × List ℕ
@@ -21,6 +21,7 @@ row NoRoom = (11, [])
 row Disagrees = (12, [])
 row (Incomplete index) = (13, index ∷ [])
 row BadLine = (14, [])
+row WrongChannel = (15, [])
 row (BadRecord place) = (16, place ∷ [])
 
 -- "A refusal returns its number and what its name says it carries"

@@ -18,6 +18,7 @@ pub enum Refusal {
     Disagrees,
     Incomplete(u8),
     BadLine,
+    WrongChannel,
     BadRecord(usize),
 }
 
@@ -41,6 +42,7 @@ impl Refusal {
             Refusal::Disagrees => 12,
             Refusal::Incomplete(_) => 13,
             Refusal::BadLine => 14,
+            Refusal::WrongChannel => 15,
             Refusal::BadRecord(_) => 16,
         }
     }
@@ -64,6 +66,7 @@ impl Refusal {
             Refusal::Disagrees => 0,
             Refusal::Incomplete(index) => index as usize,
             Refusal::BadLine => 0,
+            Refusal::WrongChannel => 0,
             Refusal::BadRecord(place) => place,
         }
     }

@@ -5,13 +5,13 @@ use Prim.Native.Nat.{ℕ}
 use lib.ListN.{getD}
 use Rattle.base.specs.Refusal.{row}
 use Rattle.base.specs.declared.refusal.Refusal.{Refusal}
-use Rattle.base.specs.declared.refusal.Refusal.the-variants.{NotEnoughData, TooMuchData, InvalidZeroSession, InvalidAuthType, InvalidPrivilegeLevel, NoChannel, BadIndex, LongName, NoForm, NotARequest, NoRoom, Disagrees, Incomplete, BadLine, BadRecord}
+use Rattle.base.specs.declared.refusal.Refusal.the-variants.{NotEnoughData, TooMuchData, InvalidZeroSession, InvalidAuthType, InvalidPrivilegeLevel, NoChannel, BadIndex, LongName, NoForm, NotARequest, NoRoom, Disagrees, Incomplete, BadLine, WrongChannel, BadRecord}
 
--- the column of names, from number 0 on; none has 0 or 15
+-- the column of names, from number 0 on; none has 0
 unfoldable pub named : ℕ × List ℕ → Refusal
 named r =
     let v : ℕ = getD (r .1) 0 0 in
-    getD (BadLine ∷ NotEnoughData ∷ TooMuchData ∷ InvalidZeroSession ∷ InvalidAuthType v ∷ InvalidPrivilegeLevel v ∷ NoChannel ∷ BadIndex ∷ LongName ∷ NoForm ∷ NotARequest ∷ NoRoom ∷ Disagrees ∷ Incomplete v ∷ BadLine ∷ BadLine ∷ BadRecord v ∷ []) (r .0) BadLine
+    getD (BadLine ∷ NotEnoughData ∷ TooMuchData ∷ InvalidZeroSession ∷ InvalidAuthType v ∷ InvalidPrivilegeLevel v ∷ NoChannel ∷ BadIndex ∷ LongName ∷ NoForm ∷ NotARequest ∷ NoRoom ∷ Disagrees ∷ Incomplete v ∷ BadLine ∷ WrongChannel ∷ BadRecord v ∷ []) (r .0) BadLine
 
 pub named-row : (r : Refusal) → named (row r) ≡ r
 unfolding named
@@ -29,4 +29,5 @@ named-row NoRoom = refl
 named-row Disagrees = refl
 named-row (Incomplete index) = refl
 named-row BadLine = refl
+named-row WrongChannel = refl
 named-row (BadRecord place) = refl
