@@ -81,7 +81,7 @@ module _ (s : List ℕ) (i : ℕ) where
 pub response-read : (s after : List ℕ) {r : Written} → length s ≤ partLength → Writes (accepted s) r (replicate partLength 0) after → partOf s ≡ accepted (record { «data_length» = length s; «record_data» = after })
 response-read s after h w = rw (le-ltb partLength (length s) h, padding partLength h w)
 
-all-zero : (t : List ℕ) → zeros t ≡ true → t ≡ replicate (length t) 0
+pub all-zero : (t : List ℕ) → zeros t ≡ true → t ≡ replicate (length t) 0
 unfolding zeros
 all-zero [] e = refl
 all-zero (x ∷ t) e = go (eqb x 0) refl e (all-zero t)
@@ -90,7 +90,7 @@ all-zero (x ∷ t) e = go (eqb x 0) refl e (all-zero t)
     go true p e rest = let z = eqb-true x 0 p in let r = rest e in cc
     go false p e rest = let z : _≡_ {A = ℕ} 0 1 = cc in absurd (omega arith)
 
-zeros-are : (n : ℕ) → zeros (replicate n 0) ≡ true
+pub zeros-are : (n : ℕ) → zeros (replicate n 0) ≡ true
 unfolding zeros
 zeros-are zero = refl
 zeros-are (suc n) = zeros-are n

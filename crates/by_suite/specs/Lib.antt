@@ -1,0 +1,3 @@
+pub mod ChannelCollector
+pub mod Demand
+pub mod GetChannelCipherSuites
