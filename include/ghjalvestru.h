@@ -1,5 +1,5 @@
 /* Ghjalvestru from C: readers of IPMI channel and session answers, writers of their requests, texts, a channel's settings
- * after a Set Channel Access, the table of cipher suites, the collector of a list of them, and the strict reading and
+ * after a Set Channel Access, the table of cipher suites, two collectors of a list of them, and the strict reading and
  * writing of such a list's records.
  *
  * Every function takes any bytes and any numbers. A pair `const uint8_t *x, size_t x_length` is a slice; an empty one may be
@@ -27,9 +27,9 @@
 #include <stdint.h>
 
 /* Of this header, the archive and the Rust crate; rust/CHANGELOG.md says what changed. */
-#define GHJ_VERSION "0.3.0"
+#define GHJ_VERSION "0.4.0"
 #define GHJ_VERSION_MAJOR 0
-#define GHJ_VERSION_MINOR 3
+#define GHJ_VERSION_MINOR 4
 #define GHJ_VERSION_PATCH 0
 
 #ifdef __cplusplus
@@ -56,6 +56,7 @@ enum ghj_refusal {
     GHJ_DISAGREES = 12,
     GHJ_INCOMPLETE = 13, /* carries the lowest unheard index */
     GHJ_BAD_LINE = 14,
+    GHJ_WRONG_CHANNEL = 15,
     GHJ_BAD_RECORD = 16 /* carries the place; one above 2^55 - 1 counts as 2^55 - 1 */
 };
 
@@ -63,7 +64,7 @@ enum ghj_refusal {
 static inline const char *ghj_refusal_text(unsigned refusal) {
     switch (refusal) {
     case GHJ_NOT_ENOUGH_DATA: return "NotEnoughData: a response has a wrong length, or its channel does not exist";
-    case GHJ_TOO_MUCH_DATA: return "TooMuchData: a suite response is above 16 bytes";
+    case GHJ_TOO_MUCH_DATA: return "TooMuchData: a suite response is above 16 bytes, or one by suite above 17";
     case GHJ_INVALID_ZERO_SESSION: return "InvalidZeroSession: the session number is 0";
     case GHJ_INVALID_AUTH_TYPE: return "InvalidAuthType: no such authentication type";
     case GHJ_INVALID_PRIVILEGE_LEVEL: return "InvalidPrivilegeLevel: no such privilege level";
@@ -76,6 +77,7 @@ static inline const char *ghj_refusal_text(unsigned refusal) {
     case GHJ_DISAGREES: return "Disagrees: no list explains this answer and those accepted";
     case GHJ_INCOMPLETE: return "Incomplete: a part of the list was not heard";
     case GHJ_BAD_LINE: return "BadLine: a line that cannot be read";
+    case GHJ_WRONG_CHANNEL: return "WrongChannel: an answer comes from another channel than the collector's";
     case GHJ_BAD_RECORD: return "BadRecord: a list that is no sequence of records";
     default: return "no such refusal";
     }
@@ -197,6 +199,7 @@ static inline uint64_t ghj_number(const uint8_t *bytes, size_t length) {
 #define GHJ_CHALLENGE_REQUEST_SIZE 17
 #define GHJ_ACTIVATION_REQUEST_SIZE 22
 #define GHJ_SUITES_REQUEST_SIZE 3
+#define GHJ_BY_SUITE_REQUEST_SIZE 3
 #define GHJ_SET_ACCESS_REQUEST_SIZE 3
 
 /* How many bytes each record has, which is the size of its struct, and the parts that have a length of their own. */
@@ -222,9 +225,13 @@ static inline uint64_t ghj_number(const uint8_t *bytes, size_t length) {
 #define GHJ_PART_SIZE 16
 #define GHJ_LAST_INDEX 0x3F
 
-/* Of a collector: all of its struct, and the two bytes behind its arrays. */
+/* The most bytes of an answer by suite: its channel and a part. */
+#define GHJ_BY_SUITE_SIZE 17
+
+/* Of a collector: all of its struct, the two bytes behind its arrays, all of the struct of one for a channel. */
 #define GHJ_COLLECTOR_SIZE 1090
 #define GHJ_KNOWN_SIZE 2
+#define GHJ_CHANNEL_COLLECTOR_SIZE 1092
 
 /* Requests: the data of each command at the start of `out`; the number is their length. The first argument at fault
  * decides, and GHJ_NO_ROOM comes last. The whole number of a type or level counts, as a command writes no reserved bits. */
@@ -248,8 +255,15 @@ uint64_t ghj_challenge_request(uint8_t auth_type, const uint8_t *name, size_t na
 uint64_t ghj_activation_request(uint8_t auth_type, uint8_t privilege, const uint8_t challenge[16], uint32_t sequence,
                                 uint8_t *out, size_t out_length);
 
-/* Get Channel Cipher Suites, 54h. 3 bytes: GHJ_NO_CHANNEL, then GHJ_BAD_INDEX above 0x3F. */
+/* Get Channel Cipher Suites, 54h. 3 bytes: GHJ_NO_CHANNEL, then GHJ_BAD_INDEX above 0x3F. There are two readings of this
+ * command. For a real controller it is the one by suite: ghj_by_suite_request, ghj_by_suite and the struct
+ * ghj_channel_collector, which take its answers as they come. The other, ghj_suites_request, ghj_suites and the struct
+ * ghj_collector, is that of the Rust crate ipmi-rs-core: bit 7 of the request's last byte is clear, and every byte of an
+ * answer is one of the list. */
 uint64_t ghj_suites_request(uint8_t channel, uint8_t index, uint8_t *out, size_t out_length);
+
+/* The same by suite: bit 7 of the last byte is set. */
+uint64_t ghj_by_suite_request(uint8_t channel, uint8_t index, uint8_t *out, size_t out_length);
 
 /* The access settings of a channel. */
 struct ghj_access_record {
@@ -349,9 +363,14 @@ struct ghj_activation_record {
 };
 
 /* Get Channel Cipher Suites, 54h. The part of the list that the answer has, 0 to 16 bytes. GHJ_TOO_MUCH_DATA above
- * GHJ_PART_SIZE. As in the Rust crate the whole response counts as list bytes: a controller's own answer begins with its
- * channel, which the caller leaves out. */
+ * GHJ_PART_SIZE. As in the Rust crate ipmi-rs-core the whole response counts as list bytes: a real controller's answer
+ * begins with its channel, and is ghj_by_suite's to read. */
 uint64_t ghj_suites(const uint8_t *response, size_t response_length, uint8_t *out, size_t out_length);
+
+/* The same by suite: the channel's number in one byte, then the part of the list, 1 to 17 bytes. The channel is the low
+ * nibble of the first byte, whose high nibble is not looked at and is written 0. GHJ_NOT_ENOUGH_DATA for no bytes,
+ * GHJ_TOO_MUCH_DATA above GHJ_BY_SUITE_SIZE, GHJ_NO_CHANNEL where the nibble is 0xC or 0xD. */
+uint64_t ghj_by_suite(const uint8_t *response, size_t response_length, uint8_t *out, size_t out_length);
 
 /* Texts, without a zero behind: the number is their length, which is below GHJ_TEXT_SIZE. GHJ_NO_ROOM alone where nothing
  * else is said. */
@@ -445,7 +464,8 @@ uint64_t ghj_tagged_write(uint8_t owner, uint32_t vendor, uint8_t number, uint8_
                           const uint8_t *integrity, size_t integrity_length, const uint8_t *confidentiality,
                           size_t confidentiality_length, uint8_t *out, size_t out_length);
 
-/* The collector: joins a list that arrives sixteen bytes at a time. A fresh one is all zeros:
+/* The collector: joins a list that arrives sixteen bytes at a time. Every byte of an answer is one of the list: for a real
+ * controller's answers, which begin with their channel, the struct ghj_channel_collector is wanted. A fresh one is all zeros:
  *
  *     struct ghj_collector collector = GHJ_FRESH;
  *
@@ -500,6 +520,76 @@ static inline uint64_t ghj_collect_list(const struct ghj_collector *collector, u
 }
 static inline uint64_t ghj_collect_suites(const struct ghj_collector *collector, uint8_t *out, size_t out_length) {
     return ghj_collector_suites(collector->bytes, collector->marks, ghj_collect_known_const(collector), out, out_length);
+}
+
+/* The collector for a channel: joins the answers of a real controller, asked by suite, as they come. It is made for a channel,
+ * and takes answers of no other; one that is made for GHJ_CHANNEL_CURRENT takes the channel of its first accepted answer, and
+ * from then on no other.
+ *
+ *     struct ghj_channel_collector collector;
+ *     ghj_channel_collect_fresh(&collector, 1);
+ *
+ * All fields are the caller's to read alone: values that no calls make are refused with GHJ_NO_FORM by every function. All
+ * zeros are such values, for no channel: made for channel 0, `from` is 1. The functions below take the channel, the byte
+ * `from` and the collector's three arrays; those behind them take the struct. */
+struct ghj_channel_collector {
+    uint8_t channel; /* the number that it was made for */
+    uint8_t from;    /* one more than the number of the channel that its answers come from; 0 while none is taken */
+    struct ghj_collector collector;
+};
+
+/* The byte `from` of a fresh one, or GHJ_NO_CHANNEL; its arrays are zeros. */
+uint64_t ghj_channel_collector_from(uint8_t channel);
+
+/* The answer to an index, its channel first: 0, or GHJ_NO_FORM, GHJ_BAD_INDEX, GHJ_NOT_ENOUGH_DATA for no bytes,
+ * GHJ_TOO_MUCH_DATA above GHJ_BY_SUITE_SIZE, GHJ_NO_CHANNEL where the low nibble of the first byte is 0xC or 0xD,
+ * GHJ_WRONG_CHANNEL, GHJ_DISAGREES, in this order. */
+uint64_t ghj_channel_collector_answer(uint8_t channel, uint8_t *from, uint8_t bytes[1024], uint8_t marks[64],
+                                      uint8_t known[2], uint8_t index, const uint8_t *response, size_t response_length);
+
+/* As of the collector. */
+uint64_t ghj_channel_collector_status(uint8_t channel, uint8_t from, const uint8_t bytes[1024], const uint8_t marks[64],
+                                      const uint8_t known[2]);
+uint64_t ghj_channel_collector_list(uint8_t channel, uint8_t from, const uint8_t bytes[1024], const uint8_t marks[64],
+                                    const uint8_t known[2], uint8_t *out, size_t out_length);
+uint64_t ghj_channel_collector_suites(uint8_t channel, uint8_t from, const uint8_t bytes[1024], const uint8_t marks[64],
+                                      const uint8_t known[2], uint8_t *out, size_t out_length);
+
+/* Makes the struct a fresh one for a channel, whatever it held: 0, or GHJ_NO_CHANNEL. */
+static inline uint64_t ghj_channel_collect_fresh(struct ghj_channel_collector *collector, uint8_t channel) {
+    static const struct ghj_collector fresh = GHJ_FRESH;
+    uint64_t from = ghj_channel_collector_from(channel);
+    if (GHJ_IS_REFUSED(from))
+        return from;
+    collector->channel = channel;
+    collector->from = (uint8_t)from;
+    collector->collector = fresh;
+    return 0;
+}
+
+/* The same four on the struct. */
+static inline uint64_t ghj_channel_collect_answer(struct ghj_channel_collector *collector, uint8_t index,
+                                                  const uint8_t *response, size_t response_length) {
+    struct ghj_collector *heard = &collector->collector;
+    return ghj_channel_collector_answer(collector->channel, &collector->from, heard->bytes, heard->marks,
+                                        ghj_collect_known(heard), index, response, response_length);
+}
+static inline uint64_t ghj_channel_collect_status(const struct ghj_channel_collector *collector) {
+    const struct ghj_collector *heard = &collector->collector;
+    return ghj_channel_collector_status(collector->channel, collector->from, heard->bytes, heard->marks,
+                                        ghj_collect_known_const(heard));
+}
+static inline uint64_t ghj_channel_collect_list(const struct ghj_channel_collector *collector, uint8_t *out,
+                                                size_t out_length) {
+    const struct ghj_collector *heard = &collector->collector;
+    return ghj_channel_collector_list(collector->channel, collector->from, heard->bytes, heard->marks,
+                                      ghj_collect_known_const(heard), out, out_length);
+}
+static inline uint64_t ghj_channel_collect_suites(const struct ghj_channel_collector *collector, uint8_t *out,
+                                                  size_t out_length) {
+    const struct ghj_collector *heard = &collector->collector;
+    return ghj_channel_collector_suites(collector->channel, collector->from, heard->bytes, heard->marks,
+                                        ghj_collect_known_const(heard), out, out_length);
 }
 
 #ifdef __cplusplus

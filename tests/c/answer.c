@@ -5,8 +5,9 @@
 
 int main(void) {
     static const uint8_t response[] = {0x22, 0x04};
-    static const uint8_t part[] = {0xC0, 0x03, 0x01, 0x41, 0x81};
+    static const uint8_t answer[] = {0x01, 0xC0, 0x03, 0x01, 0x41, 0x81};
     struct ghj_access_record access;
+    struct ghj_channel_collector collector;
     uint8_t text[GHJ_TEXT_SIZE], suites[GHJ_LIST_SUITES];
 
     uint64_t number = ghj_access(response, sizeof response, (uint8_t *)&access, sizeof access);
@@ -17,9 +18,9 @@ int main(void) {
     number = ghj_mode_text(access.mode, text, sizeof text);
     printf("%.*s, alerting %s\n", (int)number, (const char *)text, access.alerting_disabled ? "off" : "on");
 
-    struct ghj_collector collector = GHJ_FRESH;
-    ghj_collect_answer(&collector, 0, part, sizeof part);
-    number = ghj_collect_suites(&collector, suites, sizeof suites);
+    ghj_channel_collect_fresh(&collector, 1);
+    ghj_channel_collect_answer(&collector, 0, answer, sizeof answer);
+    number = ghj_channel_collect_suites(&collector, suites, sizeof suites);
     for (uint64_t i = 0; i < number && !GHJ_IS_REFUSED(number); i++)
         printf("suite %u\n", suites[i]);
     return 0;

@@ -37,6 +37,7 @@ static void requests(void) {
     SAME(ghj_challenge_request(GHJ_AUTH_MD5, in, 0, bytes, 17), GHJ_CHALLENGE_REQUEST_SIZE);
     SAME(ghj_activation_request(GHJ_AUTH_MD5, GHJ_LEVEL_USER, sixteen, 1, out, 0), REFUSED(GHJ_NO_ROOM));
     SAME(ghj_suites_request(1, 0, out, 0), REFUSED(GHJ_NO_ROOM));
+    SAME(ghj_by_suite_request(1, 0, out, 0), REFUSED(GHJ_NO_ROOM));
     SAME(ghj_set_access_request(1, GHJ_LEAVE, GHJ_LEAVE, record, out, 0), REFUSED(GHJ_NO_ROOM));
     SAME(ghj_set_access(in, 0, out, 0), REFUSED(GHJ_NOT_A_REQUEST));
     SAME(ghj_set_access((const uint8_t *)"\x01\x62\x84", 3, out, 0), REFUSED(GHJ_NO_ROOM));
@@ -57,6 +58,8 @@ static void responses(void) {
     SAME(ghj_activation(activation, 10, out, 0), REFUSED(GHJ_NO_ROOM));
     SAME(ghj_suites(in, 0, out, 0), 0);
     SAME(ghj_suites(list, 5, out, 0), REFUSED(GHJ_NO_ROOM));
+    SAME(ghj_by_suite(in, 0, out, 0), REFUSED(GHJ_NOT_ENOUGH_DATA));
+    SAME(ghj_by_suite(list, 5, out, 0), REFUSED(GHJ_NO_ROOM));
 }
 
 static void texts(void) {
@@ -106,12 +109,32 @@ static void collectors(void) {
     SAME(ghj_collector_suites(c.bytes, c.marks, known, out, 0), REFUSED(GHJ_NO_ROOM));
 }
 
+static void channel_collectors(void) {
+    static const uint8_t silent[1] = {1}, answer[6] = {0x01, 0xC0, 0x03, 0x01, 0x41, 0x81};
+    struct ghj_channel_collector s;
+    struct ghj_collector *c = &s.collector;
+    uint8_t *known = ghj_collect_known(c);
+    ghj_channel_collect_fresh(&s, 1);
+    SAME(ghj_channel_collector_answer(1, &s.from, c->bytes, c->marks, known, 0, in, 0), REFUSED(GHJ_NOT_ENOUGH_DATA));
+    SAME(ghj_channel_collector_list(1, s.from, c->bytes, c->marks, known, out, 0), REFUSED(GHJ_INCOMPLETE));
+    SAME(ghj_channel_collector_suites(1, s.from, c->bytes, c->marks, known, out, 0), REFUSED(GHJ_INCOMPLETE));
+    /* The channel alone: a list of no bytes. */
+    SAME(ghj_channel_collector_answer(1, &s.from, c->bytes, c->marks, known, 0, silent, 1), 0);
+    SAME(ghj_channel_collector_list(1, s.from, c->bytes, c->marks, known, out, 0), 0);
+    SAME(ghj_channel_collector_suites(1, s.from, c->bytes, c->marks, known, out, 0), 0);
+    ghj_channel_collect_fresh(&s, 1);
+    SAME(ghj_channel_collector_answer(1, &s.from, c->bytes, c->marks, known, 0, answer, 6), 0);
+    SAME(ghj_channel_collector_list(1, s.from, c->bytes, c->marks, known, out, 0), REFUSED(GHJ_NO_ROOM));
+    SAME(ghj_channel_collector_suites(1, s.from, c->bytes, c->marks, known, out, 0), REFUSED(GHJ_NO_ROOM));
+}
+
 int main(void) {
     requests();
     responses();
     texts();
     lists();
     collectors();
+    channel_collectors();
     if (faults == 0)
         printf("c: an empty slice may be NULL\n");
     return faults != 0;

@@ -73,6 +73,23 @@ static void responses(void) {
     gives("suites", ghj_suites, part, 16, part, 16);
     gives("suites", ghj_suites, part, 0, part, 0);
     check("suites", refused(ghj_suites(part, 17, out, sizeof out), GHJ_TOO_MUCH_DATA, 0));
+    /* By suite: the low nibble is the channel, and the high one is not looked at. */
+    static const uint8_t by_suite[18] = {0xF1, 0xC0, 0x03, 0x01, 0x41, 0x81};
+    static const uint8_t by_suite_record[17] = {0x01, 0xC0, 0x03, 0x01, 0x41, 0x81};
+    gives("by suite", ghj_by_suite, by_suite, 1, by_suite_record, 1);
+    gives("by suite", ghj_by_suite, by_suite, 6, by_suite_record, 6);
+    gives("by suite", ghj_by_suite, by_suite, 17, by_suite_record, 17);
+    check("by suite", refused(ghj_by_suite(by_suite, 0, out, sizeof out), GHJ_NOT_ENOUGH_DATA, 0));
+    check("by suite", refused(ghj_by_suite(by_suite, 18, out, sizeof out), GHJ_TOO_MUCH_DATA, 0));
+    for (unsigned first = 0; first < 256; first++) {
+        uint8_t answer[18] = {(uint8_t)first}, nibble = first % 16;
+        uint64_t number = ghj_by_suite(answer, 1, out, sizeof out);
+        if (nibble == 0xC || nibble == 0xD)
+            check("by suite", refused(number, GHJ_NO_CHANNEL, 0));
+        else
+            check("by suite", number == 1 && out[0] == nibble);
+        check("by suite", refused(ghj_by_suite(answer, 18, out, sizeof out), GHJ_TOO_MUCH_DATA, 0));
+    }
 }
 
 /* The calls that write into a buffer, so that each is tried with any room. */
@@ -87,6 +104,8 @@ WRITER(challenge_request, ghj_challenge_request(2, (const uint8_t *)"admin", 5, 
 WRITER(challenge_longest, ghj_challenge_request(4, sixteen, 16, out, room))
 WRITER(activation_request, ghj_activation_request(1, 5, sixteen, 0x12345678, out, room))
 WRITER(suites_request, ghj_suites_request(1, 2, out, room))
+WRITER(by_suite_request, ghj_by_suite_request(1, 2, out, room))
+WRITER(by_suite_last, ghj_by_suite_request(0x0E, 0x3F, out, room))
 WRITER(channel_text, ghj_channel_text(1, out, room))
 WRITER(system_text, ghj_channel_text(0x0F, out, room))
 WRITER(mode_text, ghj_mode_text(2, out, room))
@@ -164,6 +183,8 @@ static void requests(void) {
     writes("challenge request", challenge_longest, longest, 17);
     writes("activation request", activation_request, activation, 22);
     writes("P3", suites_request, "\x01\x00\x02", 3);
+    writes("by suite request", by_suite_request, "\x01\x00\x82", 3);
+    writes("by suite request", by_suite_last, "\x0E\x00\xBF", 3);
     uint8_t out[32];
     /* P1, P2 */
     check("P1", ghj_info_request(0x0B, out, 1) == 1 && out[0] == 0x0B);
@@ -178,6 +199,10 @@ static void requests(void) {
     refuses("challenge request", ghj_challenge_request(0, longest, 17, out, 0), GHJ_LONG_NAME, 0);
     refuses("suites request", ghj_suites_request(0x0C, 0x40, out, 0), GHJ_NO_CHANNEL, 0);
     refuses("P3", ghj_suites_request(1, 0x40, out, 0), GHJ_BAD_INDEX, 0);
+    refuses("by suite request", ghj_by_suite_request(0x0C, 0x40, out, 0), GHJ_NO_CHANNEL, 0);
+    refuses("by suite request", ghj_by_suite_request(0x10, 0, out, 0), GHJ_NO_CHANNEL, 0);
+    refuses("by suite request", ghj_by_suite_request(1, 0x40, out, 0), GHJ_BAD_INDEX, 0);
+    refuses("by suite request", ghj_by_suite_request(1, 0x82, out, 0), GHJ_BAD_INDEX, 0);
 }
 
 /* Set Channel Access: the request, its reader, and the command applied. */
@@ -498,6 +523,111 @@ static void collectors(void) {
     no_form(&c);
 }
 
+/* The answer to an index, which is accepted. */
+static void takes(const char *what, struct ghj_channel_collector *s, uint8_t index, const void *answer, size_t length) {
+    check(what, ghj_channel_collect_answer(s, index, answer, length) == 0);
+}
+
+/* Refused, which changes nothing. */
+static void turns_down(const char *what, const struct ghj_channel_collector *s, uint8_t index, const void *answer,
+                       size_t length, unsigned refusal) {
+    struct ghj_channel_collector after = *s;
+    check(what, refused(ghj_channel_collect_answer(&after, index, answer, length), refusal, 0));
+    check(what, memcmp(s, &after, sizeof after) == 0);
+}
+
+/* Refused with 9 at every entry, before every other refusal. */
+static void no_channel_form(const char *what, const struct ghj_channel_collector *s) {
+    static const uint8_t untouched[64], longest[18] = {0x0C};
+    uint8_t out[64] = {0};
+    turns_down(what, s, 0, "\x01", 1, GHJ_NO_FORM);
+    turns_down(what, s, 64, longest, 18, GHJ_NO_FORM);
+    turns_down(what, s, 0, longest, 0, GHJ_NO_FORM);
+    check(what, refused(ghj_channel_collect_status(s), GHJ_NO_FORM, 0));
+    check(what, refused(ghj_channel_collect_list(s, out, sizeof out), GHJ_NO_FORM, 0));
+    check(what, refused(ghj_channel_collect_suites(s, out, 0), GHJ_NO_FORM, 0));
+    check(what, memcmp(out, untouched, sizeof out) == 0);
+}
+
+static void channel_collectors(void) {
+    static const uint8_t answer[18] = {0x01, 0xC0, 0x03, 0x01, 0x41, 0x81}, none[18] = {0x0C}, other[18] = {0x02};
+    struct ghj_channel_collector s;
+    uint8_t out[64];
+    for (unsigned channel = 0; channel < 256; channel++) {
+        uint64_t from = ghj_channel_collector_from((uint8_t)channel);
+        if (channel <= 0xB || channel == 0xF)
+            check("made for", from == channel + 1);
+        else
+            check("made for", channel == 0xE ? from == 0 : refused(from, GHJ_NO_CHANNEL, 0));
+    }
+    /* A real answer, for its channel. */
+    check("by suite", ghj_channel_collect_fresh(&s, 1) == 0 && s.from == 2);
+    uint64_t status = ghj_channel_collect_status(&s);
+    check("by suite", GHJ_IS_MISSING(status) && GHJ_MISSING(status) == 0);
+    check("by suite", refused(ghj_channel_collect_suites(&s, out, sizeof out), GHJ_INCOMPLETE, 0));
+    /* In this order; the last one is of a list that has ended. */
+    turns_down("order", &s, 64, answer, 0, GHJ_BAD_INDEX);
+    turns_down("order", &s, 64, none, 18, GHJ_BAD_INDEX);
+    turns_down("order", &s, 63, answer, 0, GHJ_NOT_ENOUGH_DATA);
+    turns_down("order", &s, 63, none, 18, GHJ_TOO_MUCH_DATA);
+    turns_down("order", &s, 63, none, 17, GHJ_NO_CHANNEL);
+    turns_down("order", &s, 63, "\xFD", 1, GHJ_NO_CHANNEL);
+    turns_down("order", &s, 63, other, 17, GHJ_WRONG_CHANNEL);
+    takes("by suite", &s, 0, answer, 6);
+    turns_down("order", &s, 0, other, 6, GHJ_WRONG_CHANNEL);
+    turns_down("order", &s, 0, answer, 7, GHJ_DISAGREES);
+    turns_down("order", &s, 1, answer, 2, GHJ_DISAGREES);
+    turns_down("0xE is another channel", &s, 0, "\x0E\xC0\x03\x01\x41\x81", 6, GHJ_WRONG_CHANNEL);
+    takes("the high nibble", &s, 0, "\xA1\xC0\x03\x01\x41\x81", 6);
+    check("by suite", ghj_channel_collect_status(&s) == 5 && s.channel == 1 && s.from == 2);
+    check("by suite", ghj_channel_collect_list(&s, out, sizeof out) == 5 && memcmp(out, answer + 1, 5) == 0);
+    check("by suite", refused(ghj_channel_collect_list(&s, out, 4), GHJ_NO_ROOM, 0));
+    check("by suite", ghj_channel_collect_suites(&s, out, sizeof out) == 1 && out[0] == 3);
+    check("by suite", refused(ghj_channel_collect_suites(&s, out, 0), GHJ_NO_ROOM, 0));
+    /* Made for Current: a refused first answer takes no channel, the first accepted one does, 0xE too. */
+    check("current", ghj_channel_collect_fresh(&s, GHJ_CHANNEL_CURRENT) == 0 && s.from == 0);
+    turns_down("current", &s, 64, answer, 6, GHJ_BAD_INDEX);
+    turns_down("current", &s, 0, none, 6, GHJ_NO_CHANNEL);
+    takes("current", &s, 1, "\x3E", 1);
+    check("current", s.channel == 0xE && s.from == 0xF);
+    turns_down("current", &s, 0, answer, 6, GHJ_WRONG_CHANNEL);
+    takes("current", &s, 0, "\x0E", 1);
+    check("current", ghj_channel_collect_status(&s) == 0);
+}
+
+static void channel_forms(void) {
+    static const struct ghj_channel_collector zeros;
+    struct ghj_channel_collector s = zeros;
+    no_channel_form("all zeros", &zeros);
+    /* Another channel than it takes answers from; none; one that does not exist. */
+    ghj_channel_collect_fresh(&s, 1);
+    s.from = 3;
+    no_channel_form("from", &s);
+    s.from = 0;
+    no_channel_form("from", &s);
+    s.channel = 0xC;
+    s.from = 0xD;
+    no_channel_form("channel", &s);
+    s.channel = 0xFF;
+    s.from = 0;
+    no_channel_form("channel", &s);
+    /* Made for Current: a channel is taken exactly where a part was heard. */
+    ghj_channel_collect_fresh(&s, GHJ_CHANNEL_CURRENT);
+    s.from = 2;
+    no_channel_form("taken unheard", &s);
+    s.from = 0;
+    takes("current", &s, 0, "\x01", 1);
+    s.from = 0;
+    no_channel_form("heard untaken", &s);
+    s.from = 0xC + 1;
+    no_channel_form("taken from none", &s);
+    s.from = 2;
+    check("current", ghj_channel_collect_status(&s) == 0);
+    /* What the collector stores is tested too. */
+    s.collector.lowest = 0;
+    no_channel_form("stored", &s);
+}
+
 int main(void) {
     unnamed();
     requests();
@@ -515,6 +645,8 @@ int main(void) {
     many_records();
     tagged_forms();
     collectors();
+    channel_collectors();
+    channel_forms();
     if (faults == 0)
         printf("c: the examples hold\n");
     return faults != 0;

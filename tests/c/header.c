@@ -14,8 +14,9 @@ static void check(const char *what, int holds) {
     }
 }
 
-/* Not compiled where the struct has holes or another size. */
+/* Not compiled where a struct has holes or another size. */
 typedef char collector_size[sizeof(struct ghj_collector) == GHJ_COLLECTOR_SIZE ? 1 : -1];
+typedef char channel_collector_size[sizeof(struct ghj_channel_collector) == GHJ_CHANNEL_COLLECTOR_SIZE ? 1 : -1];
 
 static void sizes(void) {
     check("sizes", sizeof(struct ghj_access_record) == GHJ_ACCESS_SIZE);
@@ -30,6 +31,7 @@ static void sizes(void) {
     check("sizes", sizeof(struct ghj_tagged_entry) == GHJ_TAGGED_ENTRY_SIZE);
     check("sizes", GHJ_COLLECTOR_SIZE == GHJ_LIST_SIZE + GHJ_PARTS + GHJ_KNOWN_SIZE);
     check("sizes", GHJ_LIST_SIZE == GHJ_PARTS * GHJ_PART_SIZE && GHJ_LAST_INDEX == GHJ_PARTS - 1);
+    check("sizes", GHJ_CHANNEL_COLLECTOR_SIZE == 2 + GHJ_COLLECTOR_SIZE && GHJ_BY_SUITE_SIZE == 1 + GHJ_PART_SIZE);
 }
 
 static const uint8_t sixteen[GHJ_CHALLENGE_STRING_SIZE] = {1};
@@ -44,6 +46,7 @@ static void requests(void) {
     check("request sizes", ghj_activation_request(GHJ_AUTH_KEY, GHJ_LEVEL_OEM, sixteen, 1, out, sizeof out) ==
                                GHJ_ACTIVATION_REQUEST_SIZE);
     check("request sizes", ghj_suites_request(1, GHJ_LAST_INDEX, out, sizeof out) == GHJ_SUITES_REQUEST_SIZE);
+    check("request sizes", ghj_by_suite_request(1, GHJ_LAST_INDEX, out, sizeof out) == GHJ_BY_SUITE_REQUEST_SIZE);
     check("request sizes", ghj_set_access_request(1, GHJ_NON_VOLATILE, GHJ_VOLATILE, (const uint8_t *)&always, out,
                                                   sizeof out) == GHJ_SET_ACCESS_REQUEST_SIZE);
     struct ghj_set_access_record set;
@@ -231,6 +234,35 @@ static void collected(void) {
     check("collected", ghj_collect_suites(&collector, numbers, sizeof numbers) == GHJ_LIST_SUITES);
 }
 
+/* The same from a channel, its answers as they come, the longest that there are. */
+static void collected_by_suite(void) {
+    struct ghj_channel_collector collector;
+    uint8_t list[GHJ_LIST_SIZE], out[GHJ_LIST_SIZE], numbers[GHJ_LIST_SUITES], answer[GHJ_BY_SUITE_SIZE];
+    for (size_t i = 0; i < sizeof list; i++)
+        list[i] = i % 5 == 0 ? 0xC0 : 0x03;
+    /* Fresh whatever it held; for no channel, it stays as it was. */
+    memset(&collector, 0xA5, sizeof collector);
+    check("by suite", GHJ_REFUSAL(ghj_channel_collect_fresh(&collector, 0x0C)) == GHJ_NO_CHANNEL);
+    for (size_t i = 0; i < sizeof collector; i++)
+        check("by suite", ((const uint8_t *)&collector)[i] == 0xA5);
+    check("by suite", ghj_channel_collect_fresh(&collector, GHJ_CHANNEL_CURRENT) == 0);
+    check("by suite", collector.channel == GHJ_CHANNEL_CURRENT && collector.from == 0);
+    for (unsigned i = 0; i < GHJ_PARTS; i++) {
+        uint64_t status = ghj_channel_collect_status(&collector);
+        check("by suite", GHJ_IS_MISSING(status) && GHJ_MISSING(status) == i && collector.collector.lowest == i);
+        answer[0] = 0x0B;
+        memcpy(answer + 1, list + GHJ_PART_SIZE * i, GHJ_PART_SIZE);
+        check("by suite", ghj_by_suite(answer, sizeof answer, out, sizeof out) == sizeof answer);
+        check("by suite", memcmp(out, answer, sizeof answer) == 0);
+        check("by suite", ghj_channel_collect_answer(&collector, (uint8_t)i, answer, sizeof answer) == 0);
+        check("by suite", collector.channel == GHJ_CHANNEL_CURRENT && collector.from == 0x0B + 1);
+    }
+    check("by suite", ghj_channel_collect_status(&collector) == GHJ_LIST_SIZE && collector.collector.complete == 1);
+    check("by suite", ghj_channel_collect_list(&collector, out, sizeof out) == GHJ_LIST_SIZE);
+    check("by suite", memcmp(list, out, sizeof list) == 0);
+    check("by suite", ghj_channel_collect_suites(&collector, numbers, sizeof numbers) == GHJ_LIST_SUITES);
+}
+
 /* With a word, the refusals that have a text and their names, as README.md's table has them. */
 int main(int count, char **words) {
     (void)words;
@@ -250,6 +282,7 @@ int main(int count, char **words) {
     texts_fit();
     suites();
     collected();
+    collected_by_suite();
     char version[32];
     snprintf(version, sizeof version, "%d.%d.%d", GHJ_VERSION_MAJOR, GHJ_VERSION_MINOR, GHJ_VERSION_PATCH);
     check("version", strcmp(version, GHJ_VERSION) == 0);

@@ -18,7 +18,6 @@ use Rattle.base.proofs.written.Laws.{fitting, refusing}
 use Rattle.capi.specs.Number.{Codes, CodesAny, Takes, code, noneBit, plain}
 use Rattle.capi.specs.Numbered.{sure}
 use Rattle.capi.specs.Requests.{kinds}
-use Rattle.collector.specs.declared.Collector.{Collector}
 
 pub coding : {message : Outcome (List ℕ)} {w : Written} {n : ℕ} {before after : List ℕ} → n ≡ code (saidWritten w) → Writes message w before after → Codes message n before after
 coding e w = record { answers = e ∙ ap code (w .answers); leaves = w .leaves }
@@ -32,8 +31,8 @@ plain-verdict : {A : Type 0} (x : Outcome A) → plain (verdictOf x) ≡ plain x
 plain-verdict (accepted a) = refl
 plain-verdict (refused number carried) = refl
 
-pub taking-coded : {taken : Outcome Collector} {v : Verdict} {n : ℕ} {before after : Collector} → n ≡ code (plain (saidVerdict v)) → Gives taken before v after → Takes taken n before after
-taking-coded {taken} e g = record { answers = e ∙ ap (λ x. code (plain x)) (g .says) ∙ ap code (plain-verdict taken); leaves = g .holds }
+pub taking-coded : {A : Type 0} {taken : Outcome A} {v : Verdict} {n : ℕ} {before after : A} → n ≡ code (plain (saidVerdict v)) → Gives taken before v after → Takes taken n before after
+taking-coded {taken = taken} e g = record { answers = e ∙ ap (λ x. code (plain x)) (g .says) ∙ ap code (plain-verdict taken); leaves = g .holds }
 
 -- a message that is refused, as a number
 pub refused-coded : {message : Outcome (List ℕ)} (r : Refusal) {n : ℕ} (buffer : List ℕ) → message ≡ refusal r → n ≡ code (refusal r) → Codes message n buffer buffer

@@ -15,7 +15,7 @@ use Rattle.base.specs.Outcome.{Outcome, accepted, refused, _>>=_}
 use Rattle.base.specs.Refusal.{refusal, row}
 use Rattle.base.specs.Written.{lengthOf, written}
 use Rattle.base.specs.declared.refusal.Refusal.{Refusal}
-use Rattle.base.specs.declared.refusal.Refusal.the-variants.{NotEnoughData, TooMuchData, InvalidZeroSession, InvalidAuthType, InvalidPrivilegeLevel, NoChannel, BadIndex, LongName, NoForm, NotARequest, NoRoom, Disagrees, Incomplete, BadLine, BadRecord}
+use Rattle.base.specs.declared.refusal.Refusal.the-variants.{NotEnoughData, TooMuchData, InvalidZeroSession, InvalidAuthType, InvalidPrivilegeLevel, NoChannel, BadIndex, LongName, NoForm, NotARequest, NoRoom, Disagrees, Incomplete, BadLine, WrongChannel, BadRecord}
 use Rattle.base.proofs.Outcome.{apart}
 use Rattle.base.proofs.refusal.Laws.{named, named-row}
 use Rattle.collector.specs.Collector.{Standing, complete, missing, isComplete, leastTo, lowest}
@@ -59,7 +59,7 @@ module _ (number : ℕ) (carried : List ℕ) where
 
 -- A refusal's number is read, and what it carries: whole up to the limit, else the limit.
 small : (r : Refusal) → row r .0 < 256
-small = elim [ NotEnoughData ↦ lit< tt | TooMuchData ↦ lit< tt | InvalidZeroSession ↦ lit< tt | InvalidAuthType b ↦ lit< tt | InvalidPrivilegeLevel b ↦ lit< tt | NoChannel ↦ lit< tt | BadIndex ↦ lit< tt | LongName ↦ lit< tt | NoForm ↦ lit< tt | NotARequest ↦ lit< tt | NoRoom ↦ lit< tt | Disagrees ↦ lit< tt | Incomplete i ↦ lit< tt | BadLine ↦ lit< tt | BadRecord p ↦ lit< tt ]
+small = elim [ NotEnoughData ↦ lit< tt | TooMuchData ↦ lit< tt | InvalidZeroSession ↦ lit< tt | InvalidAuthType b ↦ lit< tt | InvalidPrivilegeLevel b ↦ lit< tt | NoChannel ↦ lit< tt | BadIndex ↦ lit< tt | LongName ↦ lit< tt | NoForm ↦ lit< tt | NotARequest ↦ lit< tt | NoRoom ↦ lit< tt | Disagrees ↦ lit< tt | Incomplete i ↦ lit< tt | BadLine ↦ lit< tt | WrongChannel ↦ lit< tt | BadRecord p ↦ lit< tt ]
 
 within-limit : (n : ℕ) → atMost carriedLimit n ≤ carriedLimit
 within-limit n = go (ltb carriedLimit n) refl

@@ -6,6 +6,8 @@ use Prim.Native.Nat.{ℕ}
 use Rattle.base.proofs.Unique.{Unique, both, last}
 use Rattle.base.proofs.Walked.{UniqueWalk, facts}
 use Rattle.base.specs.Outcome.{Outcome}
+use Rattle.by_suite.specs.ChannelCollector.{lentAs}
+use Rattle.by_suite.specs.declared.channel_collector.ChannelCollector.{ChannelCollector}
 use Rattle.capi.specs.Number.{Codes, CodesAny, Takes}
 use Rattle.capi.specs.Table.{Steps}
 use Rattle.collector.specs.Stored.{collectorOf}
@@ -23,6 +25,12 @@ pub taker : {taken : Outcome Collector} {n n′ : ℕ} {before : Collector} {byt
     → Takes taken n before (collectorOf bytes marks known) → Takes taken n′ before (collectorOf bytes′ marks′ known′)
     → (n ≡ n′) × (_≡_ {A = List ℕ × (List ℕ × (List ℕ × (Unit {0} × (Unit {0} × Unit {0}))))} (bytes, (marks, (known, (tt, (tt, tt))))) (bytes′, (marks′, (known′, (tt, (tt, tt))))))
 taker q q′ = (both (q .answers) (q′ .answers), ap (λ (c : Collector). (c .bytes, (c .marks, (c .known, (tt, (tt, tt)))))) (both (q .leaves) (q′ .leaves)))
+
+-- a channel's collector: the byte that it takes answers from comes before them
+pub channel-taker : {taken : Outcome ChannelCollector} {n n′ : ℕ} {before : ChannelCollector} {channel from from′ : ℕ} {bytes marks known bytes′ marks′ known′ : List ℕ}
+    → Takes taken n before (lentAs channel from bytes marks known) → Takes taken n′ before (lentAs channel from′ bytes′ marks′ known′)
+    → (n ≡ n′) × (_≡_ {A = Unit {0} × (ℕ × (List ℕ × (List ℕ × (List ℕ × (Unit {0} × (Unit {0} × Unit {0}))))))} (tt, (from, (bytes, (marks, (known, (tt, (tt, tt))))))) (tt, (from′, (bytes′, (marks′, (known′, (tt, (tt, tt))))))))
+channel-taker q q′ = (both (q .answers) (q′ .answers), ap (λ (s : ChannelCollector). (tt, (s .from, (s .collector .bytes, (s .collector .marks, (s .collector .known, (tt, (tt, tt)))))))) (both (q .leaves) (q′ .leaves)))
 
 pub ghj-suite-numbers-unique : Unique p.list.ghj_suite_numbers.Kinds.ps p.list.ghj_suite_numbers.Kinds.r p.list.ghj_suite_numbers.Reads.Asked p.list.ghj_suite_numbers.Reads.Learnt
 ghj-suite-numbers-unique κs a ok z z′ w w′ q q′ = coder 1 q q′
@@ -42,6 +50,21 @@ ghj-collector-suites-unique κs a ok z z′ w w′ q q′ = coder 3 q q′
 pub ghj-collector-take-unique : UniqueWalk p.collecting.ghj_collector_take.ended (λ M 𝓤 H A mem run. p.collecting.ghj_collector_take.clauses 𝓤 H A mem run)
 ghj-collector-take-unique M 𝓤 H A mem run κs a g z z′ w w′ = facts 𝓤 (λ q q′. (both (q .answers) (q′ .answers), ap (λ x. (x, (tt, (tt, tt)))) (both (q .leaves) (q′ .leaves))))
 
+pub ghj-channel-collector-from-unique : Unique p.channel_collecting.ghj_channel_collector_from.Kinds.ps p.channel_collecting.ghj_channel_collector_from.Kinds.r p.channel_collecting.ghj_channel_collector_from.Reads.Asked p.channel_collecting.ghj_channel_collector_from.Reads.Learnt
+ghj-channel-collector-from-unique κs a ok z z′ w w′ q q′ = (both q q′, refl)
+
+pub ghj-channel-collector-answer-unique : Unique p.channel_collecting.ghj_channel_collector_answer.Kinds.ps p.channel_collecting.ghj_channel_collector_answer.Kinds.r p.channel_collecting.ghj_channel_collector_answer.Reads.Asked p.channel_collecting.ghj_channel_collector_answer.Reads.Learnt
+ghj-channel-collector-answer-unique κs a ok z z′ w w′ q q′ = channel-taker q q′
+
+pub ghj-channel-collector-status-unique : Unique p.channel_collecting.ghj_channel_collector_status.Kinds.ps p.channel_collecting.ghj_channel_collector_status.Kinds.r p.channel_collecting.ghj_channel_collector_status.Reads.Asked p.channel_collecting.ghj_channel_collector_status.Reads.Learnt
+ghj-channel-collector-status-unique κs a ok z z′ w w′ q q′ = (both q q′, refl)
+
+pub ghj-channel-collector-list-unique : Unique p.channel_collecting.ghj_channel_collector_list.Kinds.ps p.channel_collecting.ghj_channel_collector_list.Kinds.r p.channel_collecting.ghj_channel_collector_list.Reads.Asked p.channel_collecting.ghj_channel_collector_list.Reads.Learnt
+ghj-channel-collector-list-unique κs a ok z z′ w w′ q q′ = coder 5 q q′
+
+pub ghj-channel-collector-suites-unique : Unique p.channel_collecting.ghj_channel_collector_suites.Kinds.ps p.channel_collecting.ghj_channel_collector_suites.Kinds.r p.channel_collecting.ghj_channel_collector_suites.Reads.Asked p.channel_collecting.ghj_channel_collector_suites.Reads.Learnt
+ghj-channel-collector-suites-unique κs a ok z z′ w w′ q q′ = coder 5 q q′
+
 pub ghj-challenge-unique : Unique p.responses.ghj_challenge.Kinds.ps p.responses.ghj_challenge.Kinds.r p.responses.ghj_challenge.Reads.Asked p.responses.ghj_challenge.Reads.Learnt
 ghj-challenge-unique κs a ok z z′ w w′ q q′ = coder 1 q q′
 
@@ -50,6 +73,9 @@ ghj-activation-unique κs a ok z z′ w w′ q q′ = coder 1 q q′
 
 pub ghj-suites-unique : Unique p.responses.ghj_suites.Kinds.ps p.responses.ghj_suites.Kinds.r p.responses.ghj_suites.Reads.Asked p.responses.ghj_suites.Reads.Learnt
 ghj-suites-unique κs a ok z z′ w w′ q q′ = coder 1 q q′
+
+pub ghj-by-suite-unique : Unique p.responses.ghj_by_suite.Kinds.ps p.responses.ghj_by_suite.Kinds.r p.responses.ghj_by_suite.Reads.Asked p.responses.ghj_by_suite.Reads.Learnt
+ghj-by-suite-unique κs a ok z z′ w w′ q q′ = coder 1 q q′
 
 pub ghj-access-unique : Unique p.responses.ghj_access.Kinds.ps p.responses.ghj_access.Kinds.r p.responses.ghj_access.Reads.Asked p.responses.ghj_access.Reads.Learnt
 ghj-access-unique κs a ok z z′ w w′ q q′ = coder 1 q q′
@@ -82,6 +108,9 @@ ghj-challenge-request-unique κs a ok z z′ w w′ q q′ = any-coder 2 q q′
 
 pub ghj-suites-request-unique : Unique p.requests.ghj_suites_request.Kinds.ps p.requests.ghj_suites_request.Kinds.r p.requests.ghj_suites_request.Reads.Asked p.requests.ghj_suites_request.Reads.Learnt
 ghj-suites-request-unique κs a ok z z′ w w′ q q′ = coder 2 q q′
+
+pub ghj-by-suite-request-unique : Unique p.requests.ghj_by_suite_request.Kinds.ps p.requests.ghj_by_suite_request.Kinds.r p.requests.ghj_by_suite_request.Reads.Asked p.requests.ghj_by_suite_request.Reads.Learnt
+ghj-by-suite-request-unique κs a ok z z′ w w′ q q′ = coder 2 q q′
 
 pub ghj-info-request-unique : Unique p.requests.ghj_info_request.Kinds.ps p.requests.ghj_info_request.Kinds.r p.requests.ghj_info_request.Reads.Asked p.requests.ghj_info_request.Reads.Learnt
 ghj-info-request-unique κs a ok z z′ w w′ q q′ = coder 1 q q′

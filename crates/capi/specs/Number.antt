@@ -10,7 +10,6 @@ use Rattle.base.specs.Outcome.{Outcome, accepted, refused}
 use Rattle.base.specs.Verdict.{recordOf}
 use Rattle.base.specs.Written.{lengthOf, over, written}
 use Rattle.collector.specs.Collector.{Standing, complete, missing}
-use Rattle.collector.specs.declared.Collector.{Collector}
 
 -- Three numbers that no count and no length is: no slice is as long.
 
@@ -58,7 +57,7 @@ orNone number (accepted none) = accepted noneBit
 orNone number (refused n carried) = refused n carried
 
 -- The promise of a C function by which a collector takes an answer: its number, and the collector before and after.
-pub record Takes (taken : Outcome Collector) (number : ℕ) (before after : Collector) : Type 0 where
+pub record Takes {A : Type 0} (taken : Outcome A) (number : ℕ) (before after : A) : Type 0 where
   pub answers : number ≡ code (plain taken)
   pub leaves : after ≡ recordOf before taken
 

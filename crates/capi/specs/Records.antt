@@ -8,6 +8,7 @@ use Rattle.info.specs.GetChannelInfo.{infoOf}
 use Rattle.layouts.specs.Layouts.{accessLayout, capabilitiesLayout, infoLayout}
 use Rattle.activation.specs.ActivateSession.{beginBytes, beginOf}
 use Rattle.challenge.specs.GetSessionChallenge.{challengeBytes, challengeOf}
+use Rattle.by_suite.specs.GetChannelCipherSuites.{answerBytes, answerOf}
 use Rattle.suites.specs.GetChannelCipherSuites.{partOf, suitesBytes}
 
 -- temporary session number, four bytes, low first; the challenge
@@ -27,6 +28,12 @@ abbrev pub suitesRecord : List ℕ → Outcome (List ℕ)
 suitesRecord response = do
   suites ← partOf response
   suitesBytes suites
+
+-- an answer by suite: its channel's number, then the part of the list
+abbrev pub bySuiteRecord : List ℕ → Outcome (List ℕ)
+bySuiteRecord response = do
+  answer ← answerOf response
+  answerBytes answer
 
 -- of a response of Get Channel Access
 abbrev pub accessRecord : List ℕ → Outcome (List ℕ)

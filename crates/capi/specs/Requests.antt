@@ -9,6 +9,7 @@ use Rattle.access.specs.GetChannelAccess as access
 use Rattle.access.specs.declared.get_channel_access.ChannelAccessType.{ChannelAccessType}
 use Rattle.access.specs.declared.get_channel_access.ChannelAccessType.the-variants.{NonVolatile, Volatile}
 use Rattle.info.specs.GetChannelInfo as info
+use Rattle.by_suite.specs.GetChannelCipherSuites as bySuite
 use Rattle.suites.specs.GetChannelCipherSuites as suites
 
 -- from 0 up: which settings
@@ -37,3 +38,9 @@ abbrev pub suitesRequest : ℕ → ℕ → Outcome (List ℕ)
 suitesRequest number index = do
   command ← suites.commandFor number index
   suites.commandBytes command
+
+-- the same by suite: document 02, C-12
+abbrev pub bySuiteRequest : ℕ → ℕ → Outcome (List ℕ)
+bySuiteRequest number index = do
+  command ← bySuite.commandFor number index
+  bySuite.commandBytes command

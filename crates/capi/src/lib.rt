@@ -1,4 +1,5 @@
 // The library from C: functions on numbers and byte slices.
+pub mod channel_collecting;
 pub mod collecting;
 pub mod display;
 pub mod list;

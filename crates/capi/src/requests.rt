@@ -1,7 +1,7 @@
 // The data of each request, at the start of out. Arguments are looked at in their order, then the room.
 ghost use Rattle.capi.specs.Number.{Codes, CodesAny};
 ghost use Rattle.capi.specs.Numbered.{activationRequest, capabilitiesRequest, challengeRequest};
-ghost use Rattle.capi.specs.Requests.{accessRequest, infoRequest, suitesRequest};
+ghost use Rattle.capi.specs.Requests.{accessRequest, bySuiteRequest, infoRequest, suitesRequest};
 use crate::number::NONE;
 use crate::number::code;
 use crate::number::refused;
@@ -16,6 +16,8 @@ use base::connection::Channel;
 use base::connection::ChannelAnswer;
 use base::refusal::Refusal;
 use base::verdict::Verdict;
+use by_suite::get_channel_cipher_suites::BySuite;
+use by_suite::get_channel_cipher_suites::CommandAnswer as BySuiteCommand;
 use challenge::get_session_challenge::GetSessionChallenge;
 use info::get_channel_info::CommandAnswer as InfoCommand;
 use info::get_channel_info::GetChannelInfo;
@@ -110,5 +112,16 @@ pub extern "C" fn ghj_suites_request(channel: u8, index: u8, out: &mut [u8]) -> 
     match GetChannelCipherSuites::numbered(channel, index) {
         SuitesCommand::Command(command) => code(command.write(out)),
         SuitesCommand::Refused(refusal) => refused(refusal),
+    }
+}
+
+// The same by suite.
+#[no_mangle]
+pub extern "C" fn ghj_by_suite_request(channel: u8, index: u8, out: &mut [u8]) -> u64
+    ensures { λ r. ⌜ Codes (bySuiteRequest channel index) r (now (out .entry)) (now (out .exit)) ⌝ }
+{
+    match BySuite::numbered(channel, index) {
+        BySuiteCommand::Command(command) => code(command.write(out)),
+        BySuiteCommand::Refused(refusal) => refused(refusal),
     }
 }

@@ -1,6 +1,6 @@
 // The readers of responses: each writes the record's fields at the start of out.
 ghost use Rattle.capi.specs.Number.{Codes};
-ghost use Rattle.capi.specs.Records.{accessRecord, activationRecord, capabilitiesRecord, challengeRecord, infoRecord, suitesRecord};
+ghost use Rattle.capi.specs.Records.{accessRecord, activationRecord, bySuiteRecord, capabilitiesRecord, challengeRecord, infoRecord, suitesRecord};
 use crate::number::code;
 use crate::number::refused;
 use access::get_channel_access::AccessAnswer;
@@ -11,6 +11,7 @@ use auth::get_channel_authentication_capabilities::ChannelAuthenticationCapabili
 use base::refusal::Refusal;
 use base::verdict::Verdict;
 use base::written::place;
+use by_suite::get_channel_cipher_suites::ChannelSuites;
 use challenge::get_session_challenge::SessionChallenge;
 use info::get_channel_info::ChannelInfo;
 use info::get_channel_info::InfoAnswer;
@@ -53,6 +54,20 @@ pub extern "C" fn ghj_suites(response: &[u8], out: &mut [u8]) -> u64
     let verdict = answer.verdict;
     match verdict {
         Verdict::Accepted => code(place(response, out)),
+        Verdict::Refused(refusal) => refused(refusal),
+    }
+}
+
+// An answer by suite: its channel's number, then the part of the list.
+#[no_mangle]
+pub extern "C" fn ghj_by_suite(response: &[u8], out: &mut [u8]) -> u64
+    ensures { λ r. ⌜ Codes (bySuiteRecord (now (response .entry))) r (now (out .entry)) (now (out .exit)) ⌝ }
+{
+    let read = ChannelSuites::parse(response);
+    let verdict = read.verdict;
+    let answer = read.answer;
+    match verdict {
+        Verdict::Accepted => code(answer.write(out)),
         Verdict::Refused(refusal) => refused(refusal),
     }
 }
