@@ -5,10 +5,15 @@ use mathlib.Core.List.{List, [], _∷_}
 use mathlib.Core.Logic.{inl, inr, ⊎-elim}
 use mathlib.Core.Path.{_≡_, refl, ap, subst, _∙_}
 use native.Mathlib.Omega.{arith}
+use lib.Dec.{lit<}
 use lib.ListN.{length, replicate}
 use Rattle.base.specs.Field.{Bytes}
-use Rattle.base.specs.Outcome.{Outcome, accepted, refused, isAccepted}
+use Rattle.base.specs.Outcome.{Outcome, accepted, refused, _>>=_, isAccepted}
 use Rattle.base.specs.Verdict.{verdictOf}
+use Rattle.by_suite.specs.ChannelCollector.{suitesFrom}
+use Rattle.by_suite.specs.Demand.{listening}
+use Rattle.by_suite.specs.GetChannelCipherSuites.{commandBytes, commandFor, isChannel}
+use Rattle.by_suite.proofs.Demand.{suites-are-the-channels}
 use Rattle.collector.specs.Collector.{answerOf, capacity, complete, missing, taking}
 use Rattle.collector.specs.Demand.{AllHeard, Call, Explained, Explains, HeardIn, IsList, controllers, made, taken}
 use Rattle.collector.specs.Histories.{acceptedOf, after}
@@ -18,6 +23,7 @@ use Rattle.collector.proofs.Demand.{demand-3, twelve-exactly}
 use Rattle.collector.proofs.Parts.{answer-length}
 use Rattle.collector.proofs.Step.{fresh-wf}
 use Rattle.collector.proofs.Storing.{answer-same, demand-3-stored}
+use Rattle.suites.specs.GetChannelCipherSuites.{numbersOf, suites, upTo}
 
 abbrev pub sevens : ℕ → List ℕ
 sevens n = replicate n 7
@@ -97,3 +103,30 @@ sixteen-at-63 =
 pub seventeen-at-63 : verdictOf (takingStored freshStored 63 (sevens 17)) ≡ refused 2 []
 unfolding made taking
 seventeen-at-63 = answer-same [] 63 (sevens 17) ∙ rw fresh-wf
+
+-- Document 02, C-12: index 2 of channel 1, asked by suite; an answer as it came, from channel 1.
+
+pub asked-by-suite : (commandFor 1 2 >>= commandBytes) ≡ accepted (0x01 ∷ 0x00 ∷ 0x82 ∷ [])
+asked-by-suite = refl
+
+abbrev record-3 : List ℕ
+record-3 = 0xC0 ∷ 0x03 ∷ 0x01 ∷ 0x41 ∷ 0x81 ∷ []
+
+abbrev pub as-it-came : Call
+as-it-came = record { index = 0; content = 0x01 ∷ record-3 }
+
+-- what a collector made for the channel shows of it is suite 3
+pub the-3 : suitesFrom (made (listening 1) (as-it-came ∷ [])) ≡ accepted (3 ∷ [])
+unfolding isChannel suites upTo
+the-3 =
+    suites-are-the-channels 1 refl (record { list = record-3; number = 1 })
+    (record { list = record { bytes = (lit< tt, (lit< tt, (lit< tt, (lit< tt, (lit< tt, tt))))); size = omega arith }; legal = refl; same = inr refl })
+    (as-it-came ∷ [])
+    (record { first = 0x01; part = record-3; is = refl; small = lit< tt; number = refl; answers = (omega arith, refl) }, tt)
+    (λ i il. let z : 0 ≡ i = omega arith in inl z)
+    ∙ refl
+
+-- where the same answer is read as document 01 reads it, its channel is a byte of the list, and no suite is shown
+pub the-3-lost : numbersOf (as-it-came .content) ≡ []
+unfolding suites upTo
+the-3-lost = refl
