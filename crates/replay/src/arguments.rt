@@ -11,7 +11,7 @@ use capi::table::ghj_suite_of;
 use capi::tagged_records::ghj_tagged_step;
 use capi::tagged_records::ghj_tagged_write;
 
-fn sixteen(a: &[u8]) -> [u8; 16] {
+pub(crate) fn sixteen(a: &[u8]) -> [u8; 16] {
     let mut bytes = [0u8; 16];
     place(a, &mut bytes);
     bytes

@@ -6,6 +6,10 @@ use crate::arguments::set_access_request;
 use crate::arguments::suite_of;
 use crate::arguments::tagged_step;
 use crate::arguments::tagged_write;
+use crate::channel_suites::by_suite_read;
+use crate::channel_suites::by_suite_request;
+use crate::channel_suites::by_suite_written;
+use crate::channel_suites::joined_suites;
 use crate::leaves::auth_type;
 use crate::leaves::authentication;
 use crate::leaves::channel;
@@ -51,6 +55,7 @@ use capi::requests::ghj_info_request;
 use capi::requests::ghj_suites_request;
 use capi::responses::ghj_access;
 use capi::responses::ghj_activation;
+use capi::responses::ghj_by_suite;
 use capi::responses::ghj_capabilities;
 use capi::responses::ghj_challenge;
 use capi::responses::ghj_info;
@@ -202,6 +207,11 @@ fn of_model(f: u8, a: &[u8], out: &mut [u8]) -> u64 {
         0x86 => ghj_tagged_numbers(a, out),
         0x87 => ghj_tagged_listing(a, out),
         0x88 => tagged_write(a, out),
+        0x89 => by_suite_request(a, out),
+        0x8A => by_suite_read(a),
+        0x8B => ghj_by_suite(a, out),
+        0x8C => by_suite_written(a, out),
+        0x8D => joined_suites(a, out),
         _ => BAD,
     }
 }

@@ -12,6 +12,7 @@ use lines::newline_from;
 
 mod arguments;
 mod calls;
+mod channel_suites;
 mod leaves;
 mod question;
 mod requests;

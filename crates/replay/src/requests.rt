@@ -23,7 +23,7 @@ use info::get_channel_info::GetChannelInfo;
 use suites::get_channel_cipher_suites::CommandAnswer as SuitesCommand;
 use suites::get_channel_cipher_suites::GetChannelCipherSuites;
 
-fn two(low: u8, high: u8) -> u64 {
+pub(crate) fn two(low: u8, high: u8) -> u64 {
     low as u64 + 256 * (high as u64)
 }
 

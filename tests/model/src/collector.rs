@@ -121,14 +121,14 @@ impl Hears for Collector {
 }
 
 #[cfg(test)]
-mod tests {
+pub(crate) mod tests {
     use super::*;
     use crate::history;
 
     /// The sentence of the demand, word for word and slowly: is there a list of
     /// at most 1,024 bytes that explains all of these? A place that no answer
     /// speaks of can have any byte.
-    fn explaining(answers: &[&Answer]) -> Vec<Vec<Option<u8>>> {
+    pub(crate) fn explaining(answers: &[&Answer]) -> Vec<Vec<Option<u8>>> {
         (0..=CAPACITY)
             .filter_map(|n| laid_out(n, answers))
             .collect()

@@ -1,6 +1,7 @@
 //! Histories that are made from a few numbers, so that a question is short. The
 //! README says each of them in words.
 
+use crate::by_suite::{CHANNELS, CURRENT};
 use crate::collector::{answer_of, Answer, CAPACITY};
 use crate::text::{hash, OFFSET};
 
@@ -104,6 +105,41 @@ fn damaged(list: &[u8], last: usize, random: &mut Random) -> Answer {
         _ => {}
     }
     answer
+}
+
+/// The same by suite, and the channel that its collector is made for: mostly
+/// from one channel, with damage there too.
+pub fn by_suite(seed: &[u8; 4]) -> (u8, Vec<Answer>) {
+    let mut history = self::random(seed);
+    let mut random = Random::new(&[&seed[..], &[0x0C]].concat());
+    let draws = [(); 3].map(|()| random.next());
+    let [whose, channel, other] = draws;
+    let any = |number: usize| CHANNELS[number % CHANNELS.len()];
+    let made_for = if whose % 3 == 0 {
+        CURRENT
+    } else {
+        any(channel)
+    };
+    let number = match (made_for, whose % 8) {
+        (CURRENT, _) | (_, 0) => any(other),
+        _ => made_for,
+    };
+    for answer in &mut history {
+        let [kind, first] = [(); 2].map(|()| random.next());
+        let low = match kind % 32 {
+            0 => 0xC,
+            1 => 0xD,
+            2 => CURRENT,
+            3 | 4 => any(first),
+            _ => number,
+        };
+        let high = (first / 16 % 16 * 16) as u8;
+        answer.bytes.insert(0, high + low);
+        if kind % 64 == 63 {
+            answer.bytes.clear();
+        }
+    }
+    (made_for, history)
 }
 
 /// Two answers, of these indexes and lengths, with the bytes of one list: only

@@ -1,7 +1,9 @@
 //! A model of the collector, made from the demand and from nothing of the port:
 //! what does a fresh collector say of a history of answers? And one of Set
-//! Channel Access and one of records with tags, made likewise.
+//! Channel Access, one of records with tags and one of suites by suite, made
+//! likewise.
 
+pub mod by_suite;
 pub mod collector;
 pub mod history;
 pub mod records;

@@ -1,14 +1,14 @@
-//! The questions that crates/replay has for the models of Set Channel Access and
-//! of records with tags.
+//! The questions that crates/replay has for the models of Set Channel Access, of
+//! records with tags and of suites by suite.
 
-use crate::{records, settings};
+use crate::{by_suite, records, settings};
 use replay_form::{refused, List, Row, Said, BAD_LINE};
 
 /// By this line the questions are known among those of crates/replay.
 pub const HEADING: &str = "The models";
 
 fn rows() -> Vec<Row> {
-    [&settings::ROWS[..], &records::ROWS].concat()
+    [&settings::ROWS[..], &records::ROWS, &by_suite::ROWS].concat()
 }
 
 pub fn questions() -> Vec<String> {
@@ -16,6 +16,7 @@ pub fn questions() -> Vec<String> {
     list.heading(HEADING);
     settings::questions(&mut list);
     records::questions(&mut list);
+    by_suite::questions(&mut list);
     list.lines
 }
 
@@ -30,5 +31,7 @@ pub fn answer(line: &[u8]) -> String {
 }
 
 fn ask(name: &str, data: &[u8]) -> Option<Said> {
-    settings::answer(name, data).or_else(|| records::answer(name, data))
+    settings::answer(name, data)
+        .or_else(|| records::answer(name, data))
+        .or_else(|| by_suite::answer(name, data))
 }

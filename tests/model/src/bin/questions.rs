@@ -1,7 +1,7 @@
 //! Writes the list of questions on the collector, a line each; with the word
 //! `million`, those of a million random histories instead; with the word
-//! `replay`, those on Set Channel Access and on records with tags that
-//! crates/replay has.
+//! `replay`, those on Set Channel Access, on records with tags and on suites by
+//! suite that crates/replay has.
 
 use std::io::{self, BufWriter, Write};
 

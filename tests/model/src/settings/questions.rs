@@ -42,7 +42,7 @@ const BAD: [(&str, &str); 7] = [
 ];
 
 /// No such functions.
-const NONE: [&str; 3] = [" 8D 00 00", " 8E 0A 00 01 3F 04", " 8F 0A 00 01 3F 04"];
+const NONE: [&str; 3] = [" 8E 00 00", " 8E 0A 00 01 3F 04", " 8F 0A 00 01 3F 04"];
 
 pub fn questions(list: &mut List) {
     let mut random = Random::new(b"Set Channel Access");
