@@ -1,4 +1,4 @@
-//! The collector.
+//! The collector, whose answers are bytes of the list alone.
 
 use crate::app::auth::CipherSuite;
 use crate::number::{accepted, certain, part};
@@ -7,6 +7,9 @@ use crate::Error;
 use std::fmt;
 
 /// Joins a list that arrives sixteen bytes at a time, in any order. Not `Copy`: it holds a kilobyte.
+///
+/// Every byte of an answer is one of the list, as ipmi-rs-core reads it. A real controller's answers begin with their channel:
+/// for them [`ChannelCollector`](crate::ChannelCollector) is wanted.
 ///
 /// Its `Debug` is one line, as `Collector { parts: 1, bytes: 16, status: Missing(1) }`: the parts that were heard, their
 /// bytes, and where it stands.
@@ -26,21 +29,23 @@ use std::fmt;
 /// ```
 #[derive(Clone, PartialEq, Eq, Hash)]
 pub struct Collector {
-    bytes: [u8; CAPACITY],
-    marks: [u8; PARTS],
-    known: [u8; KNOWN],
+    pub(crate) bytes: [u8; CAPACITY],
+    pub(crate) marks: [u8; PARTS],
+    pub(crate) known: [u8; KNOWN],
 }
 
 /// What a collector has heard.
 ///
 /// ```
-/// use ghjalvestru::{Collector, Error, Status};
+/// use ghjalvestru::connection::Channel;
+/// use ghjalvestru::{ChannelCollector, Error, Status};
 ///
 /// # fn ask(index: u8) -> Vec<u8> {
-/// #     [0xC0, 0x03, 0x01, 0x41, 0x81].repeat(5).chunks(16).nth(index.into()).unwrap_or_default().to_vec()
+/// #     let list = [0xC0, 0x03, 0x01, 0x41, 0x81].repeat(5);
+/// #     [&[0x01], list.chunks(16).nth(index.into()).unwrap_or_default()].concat()
 /// # }
 /// // `ask` sends the request of an index and gives the response's data.
-/// let mut collector = Collector::new();
+/// let mut collector = ChannelCollector::new(Channel::new(1)?);
 /// while let Status::Missing(index) = collector.status() {
 ///     collector.answer(index, &ask(index))?;
 /// }
@@ -55,6 +60,28 @@ pub enum Status {
     Missing(u8),
 }
 
+impl Status {
+    /// Of a collector that no other code touches, so that its arrays are what calls make of fresh ones.
+    pub(crate) fn of(number: u64) -> Self {
+        let number = certain(accepted(number));
+        match number.checked_sub(MISSING) {
+            Some(index) => Self::Missing(index as u8),
+            None => Self::Complete(number as usize),
+        }
+    }
+}
+
+/// The whole list, which a call writes.
+pub(crate) fn list(call: impl FnOnce(&mut [u8]) -> u64) -> Result<Vec<u8>, Error> {
+    part::<CAPACITY>(call)
+}
+
+/// The suites whose numbers a call writes.
+pub(crate) fn suites(call: impl FnOnce(&mut [u8]) -> u64) -> Result<Vec<CipherSuite>, Error> {
+    let numbers = part::<CAPACITY>(call)?;
+    Ok(numbers.into_iter().map(CipherSuite::of_the_table).collect())
+}
+
 impl Default for Collector {
     fn default() -> Self {
         Self {
@@ -67,17 +94,8 @@ impl Default for Collector {
 
 impl fmt::Debug for Collector {
     fn fmt(&self, f: &mut fmt::Formatter<'_>) -> fmt::Result {
-        // A mark is one more than its part's length.
-        let lengths = self.marks.iter().filter_map(|mark| mark.checked_sub(1));
-        let (parts, bytes) = lengths.fold((0, 0), |(parts, bytes), length| {
-            (parts + 1, bytes + usize::from(length))
-        });
-        let status = self.status();
         // Written here, so that `{:#?}` makes no more lines of it.
-        write!(
-            f,
-            "Collector {{ parts: {parts}, bytes: {bytes}, status: {status:?} }}"
-        )
+        write!(f, "Collector {{ {} }}", self.heard())
     }
 }
 
@@ -88,8 +106,19 @@ impl Collector {
         Self::default()
     }
 
-    /// Takes the answer to an index: the whole response data, as ipmi-rs-core reads it. A controller's own answer begins with
-    /// its channel, which this reading would take for a byte of the list: leave it out. A refusal changes nothing.
+    /// The parts that were heard, their bytes, and where it stands.
+    pub(crate) fn heard(&self) -> impl fmt::Display {
+        // A mark is one more than its part's length.
+        let lengths = self.marks.iter().filter_map(|mark| mark.checked_sub(1));
+        let (parts, bytes) = lengths.fold((0, 0), |(parts, bytes), length| {
+            (parts + 1, bytes + usize::from(length))
+        });
+        let status = self.status();
+        format!("parts: {parts}, bytes: {bytes}, status: {status:?}")
+    }
+
+    /// Takes the answer to an index: the whole response data, as ipmi-rs-core reads it. A real controller's begins with its
+    /// channel, which this reading would take for a byte of the list. A refusal changes nothing.
     ///
     /// # Errors
     ///
@@ -107,13 +136,7 @@ impl Collector {
     /// Is the list complete?
     #[must_use]
     pub fn status(&self) -> Status {
-        // No other code touches the three arrays, so they are what calls make of fresh ones.
-        let number = sys::collector_status(&self.bytes, &self.marks, &self.known);
-        let number = certain(accepted(number));
-        match number.checked_sub(MISSING) {
-            Some(index) => Status::Missing(index as u8),
-            None => Status::Complete(number as usize),
-        }
+        Status::of(sys::collector_status(&self.bytes, &self.marks, &self.known))
     }
 
     /// The whole list.
@@ -122,7 +145,7 @@ impl Collector {
     ///
     /// [`Error::Incomplete`] with the lowest unheard index.
     pub fn list(&self) -> Result<Vec<u8>, Error> {
-        part::<CAPACITY>(|out| sys::collector_list(&self.bytes, &self.marks, &self.known, out))
+        list(|out| sys::collector_list(&self.bytes, &self.marks, &self.known, out))
     }
 
     /// The suites of the whole list, up to the first step of its reading that gives none.
@@ -131,10 +154,7 @@ impl Collector {
     ///
     /// [`Error::Incomplete`] with the lowest unheard index.
     pub fn suites(&self) -> Result<Vec<CipherSuite>, Error> {
-        let numbers = part::<CAPACITY>(|out| {
-            sys::collector_suites(&self.bytes, &self.marks, &self.known, out)
-        })?;
-        Ok(numbers.into_iter().map(CipherSuite::of_the_table).collect())
+        suites(|out| sys::collector_suites(&self.bytes, &self.marks, &self.known, out))
     }
 }
 

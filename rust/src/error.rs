@@ -19,7 +19,7 @@ use std::fmt;
 pub enum Error {
     /// A response is too short; a challenge is not 20 bytes; channel info has a channel that does not exist.
     NotEnoughData,
-    /// A response of Get Channel Cipher Suites is above 16 bytes.
+    /// A response of Get Channel Cipher Suites is above 16 bytes, or one by suite above 17.
     TooMuchData,
     /// The session number is 0.
     InvalidZeroSession,
@@ -45,6 +45,8 @@ pub enum Error {
     Incomplete(u8),
     /// A line that cannot be read.
     BadLine,
+    /// An answer comes from another channel than the collector's.
+    WrongChannel,
     /// A list is no sequence of records: the place of the first byte from which no continuation gives one, or the length if
     /// only the end is missing.
     BadRecord(usize),
@@ -70,6 +72,7 @@ impl Error {
             12 => Self::Disagrees,
             13 => Self::Incomplete(byte),
             14 => Self::BadLine,
+            15 => Self::WrongChannel,
             16 => Self::BadRecord(carried as usize),
             _ => return None,
         })
@@ -92,11 +95,12 @@ impl Error {
             Self::Disagrees => (12, "Disagrees"),
             Self::Incomplete(_) => (13, "Incomplete"),
             Self::BadLine => (14, "BadLine"),
+            Self::WrongChannel => (15, "WrongChannel"),
             Self::BadRecord(_) => (16, "BadRecord"),
         }
     }
 
-    /// The refusal's number: from 1 to 14, or 16.
+    /// The refusal's number, from 1 to 16.
     #[must_use]
     pub fn number(&self) -> u8 {
         self.row().0
@@ -146,7 +150,7 @@ mod tests {
 
     #[test]
     fn numbers_and_names_are_those_of_the_variants() {
-        for number in (1..=14).chain([16]) {
+        for number in 1..=16 {
             let error = Error::from_number(number, 0xA5).unwrap();
             assert_eq!(error.number(), number);
             let shown = format!("{error:?}");
@@ -154,7 +158,7 @@ mod tests {
             assert_eq!(error.name(), name);
             assert_eq!(error.carried(), (name != shown).then_some(0xA5));
         }
-        for number in [0, 15].into_iter().chain(17..=u8::MAX) {
+        for number in [0].into_iter().chain(17..=u8::MAX) {
             assert_eq!(Error::from_number(number, 0), None);
         }
     }

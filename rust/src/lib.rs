@@ -9,7 +9,8 @@
 //! ```
 //! use ghjalvestru::app::auth::{AuthType, ChannelAuthenticationCapabilities, CipherSuite};
 //! use ghjalvestru::app::{ChannelAccess, ChannelInfo};
-//! use ghjalvestru::{Collector, Error};
+//! use ghjalvestru::connection::Channel;
+//! use ghjalvestru::{ChannelCollector, Error};
 //!
 //! let info = ChannelInfo::parse(&[0x01, 0x04, 0x01, 0x81, 0xF2, 0x1B, 0x00, 0x00, 0x00])?;
 //! assert_eq!(info.channel.to_string(), "Channel 0x1");
@@ -24,8 +25,9 @@
 //! let offered = ChannelAuthenticationCapabilities::parse(&[0x01, 0x96, 0x04, 0x03, 0x00, 0x00, 0x00, 0x00])?;
 //! assert_eq!(offered.best_auth(), Some(AuthType::MD5));
 //!
-//! let mut collector = Collector::new();
-//! collector.answer(0, &[0xC0, 0x03, 0x01, 0x41, 0x81])?;
+//! // A controller's answer, as it came: its channel, then the list's bytes.
+//! let mut collector = ChannelCollector::new(Channel::new(1)?);
+//! collector.answer(0, &[0x01, 0xC0, 0x03, 0x01, 0x41, 0x81])?;
 //! assert_eq!(collector.suites()?, [CipherSuite::Id3]);
 //!
 //! assert_eq!(ChannelAccess::parse(&[0x22]), Err(Error::NotEnoughData));
@@ -33,12 +35,14 @@
 //! ```
 
 pub mod app;
+mod channel_collector;
 mod collector;
 pub mod connection;
 mod error;
 mod number;
 pub mod sys;
 
+pub use channel_collector::ChannelCollector;
 pub use collector::{Collector, Status};
 pub use error::Error;
 
@@ -55,7 +59,7 @@ mod tests {
     #[test]
     fn all_may_go_to_other_threads() {
         fn may_go<T: Send + Sync>() {}
-        may_go::<(Collector, Error, connection::Message)>();
+        may_go::<(Collector, ChannelCollector, Error, connection::Message)>();
         may_go::<(app::auth::TaggedRecords<'_>, app::auth::Iter<'_>)>();
     }
 }

@@ -60,8 +60,10 @@ from_bytes! {
     challenge = ghj_challenge;
     /// Reads a response of Activate Session; the type's byte and the level's count by their low nibble.
     activation = ghj_activation;
-    /// Reads a response of Get Channel Cipher Suites.
+    /// Reads a response of Get Channel Cipher Suites, as the crate ipmi-rs-core does.
     suites = ghj_suites;
+    /// Reads a response of Get Channel Cipher Suites by suite: the channel's number in a byte, then the part of the list.
+    by_suite = ghj_by_suite;
     /// The numbers of the suites of a whole list.
     suite_numbers = ghj_suite_numbers;
     /// The suite numbers of a list that is read strictly, a byte for each record.
@@ -96,8 +98,10 @@ from_numbers! {
     info_request(channel) = ghj_info_request;
     /// The data of Get Channel Authentication Capabilities; [`NONE`] where the level's whole number names none.
     capabilities_request(channel, privilege) = ghj_capabilities_request;
-    /// The data of Get Channel Cipher Suites.
+    /// The data of Get Channel Cipher Suites, as the crate ipmi-rs-core has them.
     suites_request(channel, index) = ghj_suites_request;
+    /// The data of Get Channel Cipher Suites by suite.
+    by_suite_request(channel, index) = ghj_by_suite_request;
     /// The text of a channel.
     channel_text(channel) = ghj_channel_text;
     /// The text of an access mode.
@@ -400,4 +404,107 @@ pub fn collector_suites(
 ) -> u64 {
     // SAFETY: as for the list.
     unsafe { ghj_collector_suites(bytes, marks, known, out.as_mut_ptr(), out.len()) }
+}
+
+unsafe extern "C" {
+    safe fn ghj_channel_collector_from(channel: u8) -> u64;
+    fn ghj_channel_collector_answer(
+        channel: u8,
+        from: &mut u8,
+        bytes: &mut [u8; CAPACITY],
+        marks: &mut [u8; PARTS],
+        known: &mut [u8; KNOWN],
+        index: u8,
+        response: *const u8,
+        response_length: usize,
+    ) -> u64;
+    safe fn ghj_channel_collector_status(
+        channel: u8,
+        from: u8,
+        bytes: &[u8; CAPACITY],
+        marks: &[u8; PARTS],
+        known: &[u8; KNOWN],
+    ) -> u64;
+    fn ghj_channel_collector_list(
+        channel: u8,
+        from: u8,
+        bytes: &[u8; CAPACITY],
+        marks: &[u8; PARTS],
+        known: &[u8; KNOWN],
+        out: *mut u8,
+        out_length: usize,
+    ) -> u64;
+    fn ghj_channel_collector_suites(
+        channel: u8,
+        from: u8,
+        bytes: &[u8; CAPACITY],
+        marks: &[u8; PARTS],
+        known: &[u8; KNOWN],
+        out: *mut u8,
+        out_length: usize,
+    ) -> u64;
+}
+
+/// What a fresh collector for a channel has as `from`: one more than the number of the channel that it takes answers from, 0
+/// for Current.
+#[must_use]
+pub fn channel_collector_from(channel: u8) -> u64 {
+    ghj_channel_collector_from(channel)
+}
+
+/// The answer to an index, its channel first, for a collector that was made for a channel.
+pub fn channel_collector_answer(
+    channel: u8,
+    from: &mut u8,
+    bytes: &mut [u8; CAPACITY],
+    marks: &mut [u8; PARTS],
+    known: &mut [u8; KNOWN],
+    index: u8,
+    response: &[u8],
+) -> u64 {
+    let (start, length) = (response.as_ptr(), response.len());
+    // SAFETY: as for the collector's answer.
+    unsafe {
+        ghj_channel_collector_answer(channel, from, bytes, marks, known, index, start, length)
+    }
+}
+
+/// Whether such a collector is complete.
+#[must_use]
+pub fn channel_collector_status(
+    channel: u8,
+    from: u8,
+    bytes: &[u8; CAPACITY],
+    marks: &[u8; PARTS],
+    known: &[u8; KNOWN],
+) -> u64 {
+    ghj_channel_collector_status(channel, from, bytes, marks, known)
+}
+
+/// The list of such a collector.
+pub fn channel_collector_list(
+    channel: u8,
+    from: u8,
+    bytes: &[u8; CAPACITY],
+    marks: &[u8; PARTS],
+    known: &[u8; KNOWN],
+    out: &mut [u8],
+) -> u64 {
+    let (start, length) = (out.as_mut_ptr(), out.len());
+    // SAFETY: the pointer goes with its slice's length, and `out` is lent to this call alone.
+    unsafe { ghj_channel_collector_list(channel, from, bytes, marks, known, start, length) }
+}
+
+/// The numbers of the suites of such a collector's list.
+pub fn channel_collector_suites(
+    channel: u8,
+    from: u8,
+    bytes: &[u8; CAPACITY],
+    marks: &[u8; PARTS],
+    known: &[u8; KNOWN],
+    out: &mut [u8],
+) -> u64 {
+    let (start, length) = (out.as_mut_ptr(), out.len());
+    // SAFETY: as for the list.
+    unsafe { ghj_channel_collector_suites(channel, from, bytes, marks, known, start, length) }
 }

@@ -10,7 +10,8 @@ use std::ops::Deref;
 /// How many bytes of the list an answer has at most.
 const PART: usize = CAPACITY / PARTS;
 
-/// Asks for a part of the list of suites. Reference: IPMI 2.0, Table 22-17.
+/// Asks for a part of the list of suites, as ipmi-rs-core does. For a real controller [`GetChannelCipherSuites::by_suite`] is
+/// wanted, which asks for it by suite. Reference: IPMI 2.0, Table 22-17.
 ///
 /// ```
 /// use ghjalvestru::app::auth::GetChannelCipherSuites;
@@ -44,6 +45,19 @@ impl GetChannelCipherSuites {
             list_index,
         })
     }
+
+    /// The same by suite, with bit 7 of the last byte set: what a real controller is asked.
+    ///
+    /// # Errors
+    ///
+    /// [`Error::BadIndex`] above 0x3F.
+    pub fn by_suite(channel: Channel, list_index: u8) -> Result<BySuite, Error> {
+        by_suite_request(channel, list_index)?;
+        Ok(BySuite {
+            channel,
+            list_index,
+        })
+    }
 }
 
 fn request(channel: Channel, list_index: u8) -> Result<[u8; 3], Error> {
@@ -65,6 +79,91 @@ impl IpmiCommand for GetChannelCipherSuites {
     }
 }
 
+/// Asks for a part of the list of suites by suite; made by [`GetChannelCipherSuites::by_suite`]. Reference: IPMI 2.0, Table
+/// 22-17.
+///
+/// ```
+/// use ghjalvestru::app::auth::GetChannelCipherSuites;
+/// use ghjalvestru::connection::{Channel, Message};
+/// use ghjalvestru::Error;
+///
+/// let message: Message = GetChannelCipherSuites::by_suite(Channel::new(1)?, 2)?.into();
+/// assert_eq!((message.cmd(), message.data()), (0x54, &[0x01, 0x00, 0x82][..]));
+/// assert_eq!(GetChannelCipherSuites::by_suite(Channel::Current, 0x40), Err(Error::BadIndex));
+/// # Ok::<(), Error>(())
+/// ```
+#[derive(Clone, Copy, Debug, PartialEq, Eq, Hash)]
+pub struct BySuite {
+    channel: Channel,
+    list_index: u8,
+}
+
+impl BySuite {
+    /// The command's number.
+    pub const COMMAND: u8 = GetChannelCipherSuites::COMMAND;
+}
+
+fn by_suite_request(channel: Channel, list_index: u8) -> Result<[u8; 3], Error> {
+    record(|out| sys::by_suite_request(channel.value(), list_index, out))
+}
+
+impl From<BySuite> for Message {
+    fn from(command: BySuite) -> Self {
+        let data = by_suite_request(command.channel, command.list_index);
+        Message::request(BySuite::COMMAND, certain(data))
+    }
+}
+
+impl IpmiCommand for BySuite {
+    type Output = ChannelSuites;
+
+    fn parse_success_response(data: &[u8]) -> Result<ChannelSuites, Error> {
+        ChannelSuites::parse(data)
+    }
+}
+
+/// An answer by suite: its channel and its part of the list. [`ChannelCollector`](crate::ChannelCollector) joins the answers.
+///
+/// ```
+/// use ghjalvestru::app::auth::ChannelSuites;
+/// use ghjalvestru::connection::Channel;
+/// use ghjalvestru::Error;
+///
+/// let answer = ChannelSuites::parse(&[0x01, 0xC0, 0x03, 0x01, 0x41, 0x81])?;
+/// assert_eq!(answer.channel, Channel::new(1)?);
+/// assert_eq!(answer.suites[..2], [0xC0, 0x03]);
+/// assert_eq!(ChannelSuites::parse(&[]), Err(Error::NotEnoughData));
+/// # Ok::<(), Error>(())
+/// ```
+#[derive(Clone, Copy, Debug, PartialEq, Eq, Hash)]
+pub struct ChannelSuites {
+    /// The channel that answers: the low nibble of the first byte.
+    pub channel: Channel,
+    /// The bytes behind it.
+    pub suites: ChannelCipherSuites,
+}
+
+impl ChannelSuites {
+    /// Reads a response.
+    ///
+    /// # Errors
+    ///
+    /// [`Error::NotEnoughData`] for no bytes, [`Error::TooMuchData`] above seventeen, [`Error::NoChannel`] where the low nibble
+    /// of the first byte is 0xC or 0xD, in this order.
+    pub fn parse(data: &[u8]) -> Result<Self, Error> {
+        let mut record = [0; 1 + PART];
+        let length = length(sys::by_suite(data, &mut record))?;
+        let [channel, record_data @ ..] = record;
+        Ok(Self {
+            channel: certain(Channel::new(channel)),
+            suites: ChannelCipherSuites {
+                data_length: length - 1,
+                record_data,
+            },
+        })
+    }
+}
+
 /// A part of the list of suites; as a slice, its bytes. [`Collector`](crate::Collector) joins the parts.
 ///
 /// ```
@@ -83,7 +182,8 @@ pub struct ChannelCipherSuites {
 }
 
 impl ChannelCipherSuites {
-    /// Reads a response.
+    /// Reads a response, every byte of which is one of the list, as ipmi-rs-core does. A real controller's begins with its
+    /// channel: [`ChannelSuites::parse`] reads that.
     ///
     /// # Errors
     ///
@@ -280,6 +380,37 @@ mod tests {
             ChannelCipherSuites::parse(&[0; 17]),
             Err(Error::TooMuchData)
         );
+    }
+
+    #[test]
+    fn requests_by_suite() {
+        for index in 0..=0x3F {
+            let command = GetChannelCipherSuites::by_suite(Channel::Current, index).unwrap();
+            let message = Message::from(command);
+            assert_eq!(message.data(), [0x0E, 0x00, 0x80 + index]);
+            assert_eq!((message.netfn_raw(), message.cmd()), (0x06, 0x54));
+        }
+        for index in 0x40..=u8::MAX {
+            assert_eq!(
+                GetChannelCipherSuites::by_suite(Channel::Current, index),
+                Err(Error::BadIndex)
+            );
+        }
+    }
+
+    #[test]
+    fn answers_by_suite() {
+        for length in 1..=17 {
+            let answer = BySuite::parse_success_response(&[0xFB; 17][..length]).unwrap();
+            assert_eq!(answer.channel.value(), 0xB);
+            assert_eq!(answer.suites[..], [0xFB; 17][1..length]);
+        }
+        assert_eq!(ChannelSuites::parse(&[]), Err(Error::NotEnoughData));
+        assert_eq!(ChannelSuites::parse(&[0x0C; 18]), Err(Error::TooMuchData));
+        for first in 0..=u8::MAX {
+            let channel = ChannelSuites::parse(&[first]).map(|answer| answer.channel);
+            assert_eq!(channel, Channel::new(first % 0x10));
+        }
     }
 
     /// P10: the first step gives nothing, the second one does.

@@ -13,7 +13,7 @@ pub use get_channel_authentication_capabilities::{
     ChannelAuthenticationCapabilities, GetChannelAuthenticationCapabilities,
 };
 pub use get_channel_cipher_suites::{
-    ChannelCipherSuites, CipherSuite, GetChannelCipherSuites, Iter,
+    BySuite, ChannelCipherSuites, ChannelSuites, CipherSuite, GetChannelCipherSuites, Iter,
 };
 pub use get_session_challenge::{GetSessionChallenge, SessionChallenge};
 pub use tagged_records::{Owner, TaggedRecord, TaggedRecords};
