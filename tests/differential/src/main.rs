@@ -1,9 +1,10 @@
 //! The port, through C: its collector against the model, on the recorded questions and, with the word `million`, on a million
-//! random histories, and with forged stored bytes; its records with tags against the model, and all else against the Rust
-//! crate, on `rounds=N` random turns a function from `seed=N`.
+//! random histories, and with forged stored bytes; its suites by suite, with the collector for a channel, and its records with
+//! tags against their models, and all else against the Rust crate, on `rounds=N` random turns a function from `seed=N`.
 
 #[cfg(feature = "oracle")]
 mod against;
+mod by_suite;
 mod forged;
 #[cfg_attr(not(feature = "oracle"), allow(dead_code))]
 mod held;
@@ -36,6 +37,7 @@ fn main() {
         same &= million();
     }
     same &= forged::all(asked.seed, asked.rounds);
+    same &= by_suite::all(asked.seed, asked.rounds, asked.million);
     same &= records::all(asked.seed, asked.rounds);
     same &= readers(&asked);
     if !same {
