@@ -9,6 +9,14 @@
  *     write                     the record that is made of these parts: owner, vendor (four bytes, low first), number,
  *                               authentication, how many numbers of integrity, these, then those of confidentiality
  *     row                       the algorithms of the suite of this number
+ * And of answers by suite, COMMAND being 54 too:
+ *     asked                     the request by suite that is made of these parts
+ *     heard                     the record of an answer with these data
+ *     made                      a collector for this channel is made, and is the one that the next lines are of
+ *     take                      it takes the answer to the index of the first byte; the rest is the answer's data
+ *     status                    its lowest unheard index, or nothing where it is complete
+ *     from                      the channel that it takes answers from, or nothing where none is taken
+ *     list, suites              its list, and the numbers of its suites
  * All in hex, `-` for no bytes. */
 #include "ghjalvestru.h"
 
@@ -53,6 +61,32 @@ static uint64_t set(const char *what, const uint8_t *bytes, size_t length, uint8
     exit(2);
 }
 
+static uint64_t by_suite(const char *what, const uint8_t *bytes, size_t length, uint8_t *out, size_t room) {
+    static struct ghj_channel_collector collector;
+    if (strcmp(what, "asked") == 0 && length == 2)
+        return ghj_by_suite_request(bytes[0], bytes[1], out, room);
+    if (strcmp(what, "heard") == 0)
+        return ghj_by_suite(bytes, length, out, room);
+    if (strcmp(what, "made") == 0 && length == 1)
+        return ghj_channel_collect_fresh(&collector, bytes[0]);
+    if (strcmp(what, "take") == 0 && length >= 1)
+        return ghj_channel_collect_answer(&collector, bytes[0], bytes + 1, length - 1);
+    if (strcmp(what, "status") == 0) {
+        uint64_t status = ghj_channel_collect_status(&collector);
+        out[0] = (uint8_t)GHJ_MISSING(status);
+        return GHJ_IS_REFUSED(status) ? status : GHJ_IS_MISSING(status);
+    }
+    if (strcmp(what, "from") == 0) {
+        out[0] = (uint8_t)(collector.from - 1);
+        return collector.from != 0;
+    }
+    if (strcmp(what, "list") == 0)
+        return ghj_channel_collect_list(&collector, out, room);
+    if (strcmp(what, "suites") == 0)
+        return ghj_channel_collect_suites(&collector, out, room);
+    exit(2);
+}
+
 static uint64_t suites(const char *what, const uint8_t *bytes, size_t length, uint8_t *out, size_t room) {
     if (strcmp(what, "numbers") == 0)
         return ghj_tagged_numbers(bytes, length, out, room);
@@ -67,7 +101,7 @@ static uint64_t suites(const char *what, const uint8_t *bytes, size_t length, ui
                                 length - 8 - bytes[7], out, room);
     if (strcmp(what, "row") == 0 && length == 1)
         return ghj_suite_algorithms(bytes[0], out, room);
-    exit(2);
+    return by_suite(what, bytes, length, out, room);
 }
 
 static uint64_t answer(const char *what, unsigned command, const uint8_t *bytes, size_t length, uint8_t *out, size_t room) {
