@@ -2,7 +2,7 @@
 //! few times, for a counter of instructions, and how often.
 
 use ghjalvestru_bench::called::{self, numbers, Reader};
-use ghjalvestru_bench::plain::{self, Plain, PART, RECORD};
+use ghjalvestru_bench::plain::{self, Plain, PlainChannel, PART, RECORD};
 use ghjalvestru_bench::port;
 use ghjalvestru_bench::requests::{self, Writer, Writing, ASKED, WRITINGS};
 use ghjalvestru_bench::timing::{compare, heading};
@@ -378,6 +378,114 @@ fn new_answers(name: &str, list: &[u8], way: Answer) {
     );
 }
 
+fn port_by_suite(c: &mut PlainChannel, index: u8, response: &[u8]) -> u64 {
+    let Plain {
+        bytes,
+        marks,
+        known,
+    } = &mut c.heard;
+    let (start, length) = (response.as_ptr(), response.len());
+    unsafe {
+        port::ghj_channel_collector_answer(
+            c.channel,
+            &mut c.from,
+            bytes,
+            marks,
+            known,
+            index,
+            start,
+            length,
+        )
+    }
+}
+
+fn plain_by_suite(c: &mut PlainChannel, index: u8, response: &[u8]) -> u64 {
+    u64::from(c.answer(index, response))
+}
+
+/// The collector within, which is given the list's bytes alone.
+fn port_within(c: &mut PlainChannel, index: u8, response: &[u8]) -> u64 {
+    port_answer(&mut c.heard, index, &response[1..])
+}
+
+#[inline(never)]
+fn no_by_suite(c: &mut PlainChannel, _: u8, _: &[u8]) -> u64 {
+    u64::from(black_box(c).heard.marks[0])
+}
+
+type BySuite = fn(&mut PlainChannel, u8, &[u8]) -> u64;
+
+/// A row of answers by suite: what the collector is made for, and what stands beside the port.
+struct Joining {
+    name: &'static str,
+    channel: u8,
+    called: BySuite,
+}
+
+const JOININGS: [Joining; 4] = [
+    Joining {
+        name: "an answer by suite, channel 1",
+        channel: 0x01,
+        called: plain_by_suite,
+    },
+    Joining {
+        name: "an answer by suite, Current",
+        channel: 0x0E,
+        called: plain_by_suite,
+    },
+    Joining {
+        name: "the same, channel 1; the old one",
+        channel: 0x01,
+        called: port_within,
+    },
+    Joining {
+        name: "the same, Current; the old one",
+        channel: 0x0E,
+        called: port_within,
+    },
+];
+
+/// The parts of a list as channel 1 answers them.
+fn answers(list: &[u8]) -> Vec<Vec<u8>> {
+    list.chunks(PART)
+        .map(|part| [&[0x01], part].concat())
+        .collect()
+}
+
+fn joined(channel: u8, answers: &[Vec<u8>], hear: BySuite) -> PlainChannel {
+    let mut collector = PlainChannel::made_for(channel);
+    for (i, answer) in answers.iter().enumerate() {
+        assert_eq!(hear(&mut collector, i as u8, answer), 0);
+    }
+    collector
+}
+
+fn joining_row(row: &Joining, list: &[u8]) {
+    let answers = answers(list);
+    let whole = joined(row.channel, &answers, plain_by_suite);
+    assert!(whole == joined(row.channel, &answers, port_by_suite));
+    let mut place = PlainChannel::made_for(row.channel);
+    compare(
+        row.name,
+        answers.len(),
+        &mut [
+            Some(&mut || {
+                black_box(joined(row.channel, black_box(&answers), port_by_suite));
+            }),
+            Some(&mut || {
+                black_box(joined(row.channel, black_box(&answers), row.called));
+            }),
+            None,
+            Some(&mut || {
+                for _ in 0..answers.len() {
+                    place = *black_box(&whole);
+                    black_box(&place);
+                }
+            }),
+        ],
+    );
+}
+
 /// An answer to what `start` is, which is made anew for each.
 fn one_answer(name: &str, start: &Plain, index: u8, part: &[u8]) {
     let answered = |way: Answer| {
@@ -457,6 +565,9 @@ fn collector_rows() {
     );
     status_row(WHOLE, &whole);
     status_row(HALF, &half_heard(&list));
+    for row in &JOININGS {
+        joining_row(row, &list);
+    }
 }
 
 /// So many passes over a row's inputs by one of its ways: the port, the crate, or a call that does nothing.
@@ -499,6 +610,19 @@ fn few_answers(way: &str, passes: usize) {
     }
 }
 
+/// The same of answers by suite.
+fn few_joinings(row: &Joining, way: &str, passes: usize) {
+    let answers = answers(&full_list());
+    let hear: BySuite = match way {
+        "port" => port_by_suite,
+        "called" => row.called,
+        _ => no_by_suite,
+    };
+    for _ in 0..passes {
+        black_box(joined(row.channel, black_box(&answers), hear));
+    }
+}
+
 /// The same of a collector's status, a hundred calls a pass.
 fn few_statuses(collector: &Plain, way: &str, passes: usize) {
     let ask: Asking = match way {
@@ -517,6 +641,9 @@ fn counted(words: &[String]) {
     if let [row, way, passes] = words {
         let passes = passes.parse().expect("passes");
         let writing = WRITINGS.iter().find(|w| w.name == row);
+        if let Some(joining) = JOININGS.iter().find(|j| j.name == row) {
+            return few_joinings(joining, way, passes);
+        }
         match (rows.iter().find(|r| r.name == row), writing) {
             (Some(row), _) => few(row, way, passes),
             (None, Some(writing)) => few_writings(writing, way, passes),
@@ -537,6 +664,9 @@ fn counted(words: &[String]) {
     println!("a new answer, arrays lent\t64\tport");
     println!("a new answer, collector lent\t64\tlent");
     println!("{WHOLE}\t100\tport\n{HALF}\t100\tport");
+    for joining in &JOININGS {
+        println!("{}\t{}\tport", joining.name, plain::PARTS);
+    }
 }
 
 fn main() {

@@ -1,5 +1,5 @@
 //! What the crate does not have, in plain Rust, as one would write it: a collector with the same state, and the same test of it
-//! at every entry; and the strict reading of a list of suites.
+//! at every entry; the same for a channel; and the strict reading of a list of suites.
 
 use crate::called::{placed, refused, NO_ROOM};
 
@@ -68,6 +68,12 @@ impl Plain {
         if !self.well_formed() {
             return 9;
         }
+        self.take(index, part)
+    }
+
+    /// Behind the test.
+    #[inline(always)]
+    fn take(&mut self, index: u8, part: &[u8]) -> u8 {
         let i = usize::from(index);
         if i >= PARTS {
             return 7;
@@ -109,6 +115,74 @@ impl Plain {
             [_, 1] => Ok(self.least()),
             [lowest, _] => Err(lowest),
         }
+    }
+}
+
+/// A collector for a channel: the number that it was made for, one more than that of the channel that answers come from, 0 while
+/// none is taken, and the collector.
+#[derive(Clone, Copy, PartialEq)]
+#[repr(C)]
+pub struct PlainChannel {
+    pub channel: u8,
+    pub from: u8,
+    pub heard: Plain,
+}
+
+const CURRENT: u8 = 0xE;
+
+fn is_channel(number: u8) -> bool {
+    !matches!(number, 0xC | 0xD | 0x10..)
+}
+
+impl PlainChannel {
+    pub const fn made_for(channel: u8) -> Self {
+        Self {
+            channel,
+            from: if channel == CURRENT { 0 } else { channel + 1 },
+            heard: Plain::FRESH,
+        }
+    }
+
+    fn well_made(&self) -> bool {
+        let taken = self
+            .from
+            .checked_sub(1)
+            .filter(|&number| is_channel(number));
+        let fits = match self.channel {
+            CURRENT if self.heard.marks == [0; PARTS] => self.from == 0,
+            CURRENT => taken.is_some(),
+            channel => taken == Some(channel),
+        };
+        fits && self.heard.well_formed()
+    }
+
+    /// 0, or the refusal's number.
+    #[inline(never)]
+    pub fn answer(&mut self, index: u8, response: &[u8]) -> u8 {
+        if !self.well_made() {
+            return 9;
+        }
+        if usize::from(index) >= PARTS {
+            return 7;
+        }
+        let Some((first, part)) = response.split_first() else {
+            return 1;
+        };
+        if part.len() > PART {
+            return 2;
+        }
+        let number = first & 0x0F;
+        if !is_channel(number) {
+            return 6;
+        }
+        if self.from != 0 && self.from - 1 != number {
+            return 15;
+        }
+        let verdict = self.heard.take(index, part);
+        if verdict == 0 {
+            self.from = number + 1;
+        }
+        verdict
     }
 }
 

@@ -33,6 +33,16 @@ extern "C" {
         response: *const u8,
         length: usize,
     ) -> u64;
+    pub fn ghj_channel_collector_answer(
+        channel: u8,
+        from: *mut u8,
+        bytes: *mut [u8; CAPACITY],
+        marks: *mut [u8; PARTS],
+        known: *mut [u8; KNOWN],
+        index: u8,
+        response: *const u8,
+        length: usize,
+    ) -> u64;
     pub fn ghj_collector_status(
         bytes: *const [u8; CAPACITY],
         marks: *const [u8; PARTS],
