@@ -1,4 +1,6 @@
 // The library from C: functions on numbers and byte slices.
+#![tactic(auto)]
+
 pub mod channel_collecting;
 pub mod collecting;
 pub mod display;

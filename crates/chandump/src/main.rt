@@ -1,5 +1,7 @@
 // chandump: a heading, then the answer to each line of standard input. What is answered is worked out by `stream`; here
 // it is read and written. What a read brought is answered before the next read.
+#![tactic(auto)]
+
 ghost use Rattle.std.specs.Prelude.{◌+◌, ◌<◌, ◌≤◌, ◌^◌, true, ◌≡◌, length, take};
 ghost use Rattle.collector.specs.Collector.{held};
 ghost use Rattle.collector.specs.Histories.{Typed};

@@ -1,1 +1,2 @@
 // Claims over all crates' definitions; no code.
+#![tactic(auto)]

@@ -1,5 +1,7 @@
 // Joins a list that arrives a part at a time: document 01, "The collector"; document 02, C-15. Its core works on slices, its
 // entries on lent arrays; what takes a collector by value or lent is thin over them.
+#![tactic(auto)]
+
 ghost use Rattle.std.specs.Prelude.{◌+◌, ◌*◌, ◌≤◌, true, ◌≡◌, length, get_or};
 ghost use Rattle.std.proofs.Math.Seq.{paste};
 ghost use Rattle.base.specs.Verdict.{Gives};

@@ -1,4 +1,6 @@
 // chandump but for reading and writing: a line and a collector in, the answering line and the collector out.
+#![tactic(auto)]
+
 ghost use Rattle.std.specs.Prelude.{◌<◌, ◌≤◌, ◌≡◌, length};
 ghost use Rattle.auth.specs.GetChannelAuthenticationCapabilities.{best_auth, capabilities_of};
 ghost use Rattle.base.specs.Outcome.{accepted};

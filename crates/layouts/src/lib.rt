@@ -1,4 +1,6 @@
 // Records as bytes, a byte for each field: what the C functions give and take. include/ghjalvestru.h has the layouts.
+#![tactic(auto)]
+
 ghost use Rattle.std.specs.Prelude.{◌≡◌};
 ghost use Rattle.layouts.specs.Layouts.{access_from, access_layout, access_record, capabilities_layout, info_layout, set_access_layout, settings_layout, settings_record};
 

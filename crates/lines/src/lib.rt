@@ -1,4 +1,6 @@
 // What stands in a line: hex pairs, numbers; where a line ends; what is kept of a block.
+#![tactic(auto)]
+
 ghost use Rattle.std.specs.Prelude.{◌≡◌, length, take, ℕ, ◌+◌, ◌-◌, ◌<◌, ◌≤◌, max, min};
 ghost use Rattle.base.specs.Choice.{if◌then◌else◌, if◌from◌to◌then◌else◌, ◌=?◌};
 ghost use Rattle.base.specs.Outcome.{accepted, is_accepted};

@@ -1,5 +1,7 @@
 // Answers recorded questions, a line each, from the port: tests/form/README.md has the form of a question and of its answer,
 // tests/oracle and tests/model what the Rust crate and the models answer.
+#![tactic(auto)]
+
 ghost use Rattle.std.specs.Prelude.{◌<◌, ◌≤◌, length};
 
 use crate::question::answer;

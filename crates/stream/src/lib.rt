@@ -1,4 +1,6 @@
 // chandump between reading and writing: blocks of the input in, the output out, in as many steps as there is room for.
+#![tactic(auto)]
+
 ghost use Rattle.std.specs.Prelude.{[], ◌∷◌, length};
 ghost use Rattle.base.specs.Outcome.{accepted};
 ghost use Rattle.base.specs.Written.{Writes};

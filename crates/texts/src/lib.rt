@@ -1,5 +1,7 @@
 // The texts of chandump's answers, each at the start of a lent buffer. A text is built a piece at a time, in an array
 // that holds any text of its kind.
+#![tactic(auto)]
+
 ghost use Rattle.std.specs.Prelude.{◌+◌, ◌<◌, ◌≤◌, ◌++◌, ◌∷◌, ◌≡◌, length};
 ghost use Rattle.auth.specs.Auth.{auth_type_name};
 ghost use Rattle.base.specs.Choice.{◌<?◌};
