@@ -11,8 +11,7 @@ use by_suite::channel_collector::{
 use collector::Collector;
 
 // The byte of a fresh one; its arrays are zeros.
-#[unsafe(no_mangle)]
-pub extern "C" fn ghj_channel_collector_from(channel: u8) -> u64
+pub fn ghj_channel_collector_from(channel: u8) -> u64
     ensures { result ≡ code (from_for channel) }
 {
     match fresh_from(channel) {
@@ -21,8 +20,7 @@ pub extern "C" fn ghj_channel_collector_from(channel: u8) -> u64
     }
 }
 
-#[unsafe(no_mangle)]
-pub extern "C" fn ghj_channel_collector_answer(
+pub fn ghj_channel_collector_answer(
     channel: u8,
     from: &mut u8,
     bytes: &mut [u8; Collector::CAPACITY],
@@ -36,8 +34,7 @@ pub extern "C" fn ghj_channel_collector_answer(
     verdict_code(answer_from(channel, from, bytes, marks, known, index, response))
 }
 
-#[unsafe(no_mangle)]
-pub extern "C" fn ghj_channel_collector_status(
+pub fn ghj_channel_collector_status(
     channel: u8,
     from: u8,
     bytes: &[u8; Collector::CAPACITY],
@@ -49,8 +46,7 @@ pub extern "C" fn ghj_channel_collector_status(
     status_code(status_from(channel, from, bytes, marks, known))
 }
 
-#[unsafe(no_mangle)]
-pub extern "C" fn ghj_channel_collector_list(
+pub fn ghj_channel_collector_list(
     channel: u8,
     from: u8,
     bytes: &[u8; Collector::CAPACITY],
@@ -63,8 +59,7 @@ pub extern "C" fn ghj_channel_collector_list(
     code(list_from(channel, from, bytes, marks, known, out))
 }
 
-#[unsafe(no_mangle)]
-pub extern "C" fn ghj_channel_collector_suites(
+pub fn ghj_channel_collector_suites(
     channel: u8,
     from: u8,
     bytes: &[u8; Collector::CAPACITY],

@@ -9,8 +9,7 @@ use collector::{Collector, answer_in, answer_lent, list_in, status_in};
 use suites::collected::collected_suites_in;
 
 // A collector is lent as its three arrays, which lie one behind the other in its struct.
-#[unsafe(no_mangle)]
-pub extern "C" fn ghj_collector_answer(
+pub fn ghj_collector_answer(
     bytes: &mut [u8; Collector::CAPACITY],
     marks: &mut [u8; Collector::PARTS],
     known: &mut [u8; Collector::KNOWN],
@@ -23,15 +22,13 @@ pub extern "C" fn ghj_collector_answer(
 }
 
 // The same of a collector that is lent whole.
-#[unsafe(no_mangle)]
-pub extern "C" fn ghj_collector_take(collector: &mut Collector, index: u8, response: &[u8]) -> u64
+pub fn ghj_collector_take(collector: &mut Collector, index: u8, response: &[u8]) -> u64
     ensures { Takes (taking_stored collector.old index response.now) result collector.old collector.new }
 {
     verdict_code(answer_lent(collector, index, response))
 }
 
-#[unsafe(no_mangle)]
-pub extern "C" fn ghj_collector_status(
+pub fn ghj_collector_status(
     bytes: &[u8; Collector::CAPACITY],
     marks: &[u8; Collector::PARTS],
     known: &[u8; Collector::KNOWN],
@@ -41,8 +38,7 @@ pub extern "C" fn ghj_collector_status(
     status_code(status_in(bytes, marks, known))
 }
 
-#[unsafe(no_mangle)]
-pub extern "C" fn ghj_collector_list(
+pub fn ghj_collector_list(
     bytes: &[u8; Collector::CAPACITY],
     marks: &[u8; Collector::PARTS],
     known: &[u8; Collector::KNOWN],
@@ -53,8 +49,7 @@ pub extern "C" fn ghj_collector_list(
     code(list_in(bytes, marks, known, out))
 }
 
-#[unsafe(no_mangle)]
-pub extern "C" fn ghj_collector_suites(
+pub fn ghj_collector_suites(
     bytes: &[u8; Collector::CAPACITY],
     marks: &[u8; Collector::PARTS],
     known: &[u8; Collector::KNOWN],

@@ -13,8 +13,7 @@ use base::connection::{Channel, ChannelAnswer};
 use base::refusal::Refusal;
 use media::get_channel_info::{ChannelMediumType, ChannelProtocolType, ChannelSessionSupport};
 
-#[unsafe(no_mangle)]
-pub extern "C" fn ghj_channel_text(channel: u8, out: &mut [u8]) -> u64
+pub fn ghj_channel_text(channel: u8, out: &mut [u8]) -> u64
     ensures { Codes (channel_name channel) result out.old out.new }
 {
     let ChannelAnswer::Channel(channel) = Channel::new(channel) else {
@@ -23,43 +22,37 @@ pub extern "C" fn ghj_channel_text(channel: u8, out: &mut [u8]) -> u64
     code(channel.text(out))
 }
 
-#[unsafe(no_mangle)]
-pub extern "C" fn ghj_mode_text(mode: u8, out: &mut [u8]) -> u64
+pub fn ghj_mode_text(mode: u8, out: &mut [u8]) -> u64
     ensures { Codes (accepted (mode_text (mode_of mode))) result out.old out.new }
 {
     code(ChannelAccessMode::from(mode).text(out))
 }
 
-#[unsafe(no_mangle)]
-pub extern "C" fn ghj_limit_text(limit: u8, out: &mut [u8]) -> u64
+pub fn ghj_limit_text(limit: u8, out: &mut [u8]) -> u64
     ensures { Codes (accepted (limit_text (limit_of limit))) result out.old out.new }
 {
     code(ChannelPrivilegeLevel::from(limit).text(out))
 }
 
-#[unsafe(no_mangle)]
-pub extern "C" fn ghj_medium_text(medium: u8, out: &mut [u8]) -> u64
+pub fn ghj_medium_text(medium: u8, out: &mut [u8]) -> u64
     ensures { Codes (accepted (medium_text (medium_of medium))) result out.old out.new }
 {
     code(ChannelMediumType::from(medium).text(out))
 }
 
-#[unsafe(no_mangle)]
-pub extern "C" fn ghj_protocol_text(protocol: u8, out: &mut [u8]) -> u64
+pub fn ghj_protocol_text(protocol: u8, out: &mut [u8]) -> u64
     ensures { Codes (accepted (protocol_text (protocol_of protocol))) result out.old out.new }
 {
     code(ChannelProtocolType::from(protocol).text(out))
 }
 
-#[unsafe(no_mangle)]
-pub extern "C" fn ghj_session_support_text(support: u8, out: &mut [u8]) -> u64
+pub fn ghj_session_support_text(support: u8, out: &mut [u8]) -> u64
     ensures { Codes (accepted (session_text (session_of support))) result out.old out.new }
 {
     code(ChannelSessionSupport::from(support).text(out))
 }
 
-#[unsafe(no_mangle)]
-pub extern "C" fn ghj_auth_type_name(auth_type: u8, out: &mut [u8]) -> u64
+pub fn ghj_auth_type_name(auth_type: u8, out: &mut [u8]) -> u64
     ensures { CodesAny (type_name auth_type) result out.old out.new }
 {
     let AuthTypeAnswer::AuthType(kind) = AuthType::numbered(auth_type) else {

@@ -9,16 +9,14 @@ use crate::number::code;
 use crate::table::suite_number;
 use suites::get_channel_cipher_suites::{step_at, suite_numbers};
 
-#[unsafe(no_mangle)]
-pub extern "C" fn ghj_suite_numbers(list: &[u8], out: &mut [u8]) -> u64
+pub fn ghj_suite_numbers(list: &[u8], out: &mut [u8]) -> u64
     ensures { Codes (accepted (numbers_of list.now)) result out.old out.new }
 {
     code(suite_numbers(list, out))
 }
 
 // The step's suite; the reading goes on from what it leaves in position and failed.
-#[unsafe(no_mangle)]
-pub extern "C" fn ghj_suite_step(list: &[u8], position: &mut usize, failed: &mut u8) -> u64
+pub fn ghj_suite_step(list: &[u8], position: &mut usize, failed: &mut u8) -> u64
     ensures { Steps (step_at list.now position.old (is_set failed.old)) result position.new failed.new }
 {
     let step = step_at(list, *position, *failed != 0);

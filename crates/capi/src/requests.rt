@@ -17,8 +17,7 @@ use info::get_channel_info::{CommandAnswer as InfoCommand, GetChannelInfo};
 use suites::get_channel_cipher_suites::{CommandAnswer as SuitesCommand, GetChannelCipherSuites};
 
 // 1 asks for the non-volatile settings, 2 for the volatile ones.
-#[unsafe(no_mangle)]
-pub extern "C" fn ghj_access_request(channel: u8, kind: u8, out: &mut [u8]) -> u64
+pub fn ghj_access_request(channel: u8, kind: u8, out: &mut [u8]) -> u64
     ensures { Codes (access_request channel kind) result out.old out.new }
 {
     let ChannelAnswer::Channel(channel) = Channel::new(channel) else {
@@ -31,8 +30,7 @@ pub extern "C" fn ghj_access_request(channel: u8, kind: u8, out: &mut [u8]) -> u
     }
 }
 
-#[unsafe(no_mangle)]
-pub extern "C" fn ghj_info_request(channel: u8, out: &mut [u8]) -> u64
+pub fn ghj_info_request(channel: u8, out: &mut [u8]) -> u64
     ensures { Codes (info_request channel) result out.old out.new }
 {
     match GetChannelInfo::numbered(channel) {
@@ -43,8 +41,7 @@ pub extern "C" fn ghj_info_request(channel: u8, out: &mut [u8]) -> u64
 
 // The number of a type or a level counts whole. One that names nothing answers none, and nothing is written.
 
-#[unsafe(no_mangle)]
-pub extern "C" fn ghj_capabilities_request(channel: u8, privilege: u8, out: &mut [u8]) -> u64
+pub fn ghj_capabilities_request(channel: u8, privilege: u8, out: &mut [u8]) -> u64
     ensures { CodesAny (capabilities_request channel privilege) result out.old out.new }
 {
     let ChannelAnswer::Channel(channel) = Channel::new(channel) else {
@@ -56,8 +53,7 @@ pub extern "C" fn ghj_capabilities_request(channel: u8, privilege: u8, out: &mut
     code(GetChannelAuthenticationCapabilities::new(channel, level).write(out))
 }
 
-#[unsafe(no_mangle)]
-pub extern "C" fn ghj_challenge_request(auth_type: u8, name: &[u8], out: &mut [u8]) -> u64
+pub fn ghj_challenge_request(auth_type: u8, name: &[u8], out: &mut [u8]) -> u64
     ensures { CodesAny (challenge_request auth_type name.now) result out.old out.new }
 {
     let AuthTypeAnswer::AuthType(kind) = AuthType::numbered(auth_type) else {
@@ -72,8 +68,7 @@ pub extern "C" fn ghj_challenge_request(auth_type: u8, name: &[u8], out: &mut [u
     }
 }
 
-#[unsafe(no_mangle)]
-pub extern "C" fn ghj_activation_request(
+pub fn ghj_activation_request(
     auth_type: u8,
     privilege: u8,
     challenge: &[u8; 16],
@@ -97,8 +92,7 @@ pub extern "C" fn ghj_activation_request(
     code(command.write(out))
 }
 
-#[unsafe(no_mangle)]
-pub extern "C" fn ghj_suites_request(channel: u8, index: u8, out: &mut [u8]) -> u64
+pub fn ghj_suites_request(channel: u8, index: u8, out: &mut [u8]) -> u64
     ensures { Codes (suites_request channel index) result out.old out.new }
 {
     match GetChannelCipherSuites::numbered(channel, index) {
@@ -108,8 +102,7 @@ pub extern "C" fn ghj_suites_request(channel: u8, index: u8, out: &mut [u8]) -> 
 }
 
 // The same by suite.
-#[unsafe(no_mangle)]
-pub extern "C" fn ghj_by_suite_request(channel: u8, index: u8, out: &mut [u8]) -> u64
+pub fn ghj_by_suite_request(channel: u8, index: u8, out: &mut [u8]) -> u64
     ensures { Codes (by_suite_request channel index) result out.old out.new }
 {
     match BySuite::numbered(channel, index) {

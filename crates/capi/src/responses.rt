@@ -16,8 +16,7 @@ use layouts::{access_layout, capabilities_layout, info_layout};
 use suites::get_channel_cipher_suites::ChannelCipherSuites;
 
 // Temporary session number, four bytes, low first; the challenge, sixteen.
-#[unsafe(no_mangle)]
-pub extern "C" fn ghj_challenge(response: &[u8], out: &mut [u8]) -> u64
+pub fn ghj_challenge(response: &[u8], out: &mut [u8]) -> u64
     ensures { Codes (challenge_record response.now) result out.old out.new }
 {
     let answer = SessionChallenge::parse(response);
@@ -30,8 +29,7 @@ pub extern "C" fn ghj_challenge(response: &[u8], out: &mut [u8]) -> u64
 }
 
 // Authentication type; session number and initial sequence number, four bytes each, low first; privilege level.
-#[unsafe(no_mangle)]
-pub extern "C" fn ghj_activation(response: &[u8], out: &mut [u8]) -> u64
+pub fn ghj_activation(response: &[u8], out: &mut [u8]) -> u64
     ensures { Codes (activation_record response.now) result out.old out.new }
 {
     match BeginSessionInfo::parse(response) {
@@ -41,8 +39,7 @@ pub extern "C" fn ghj_activation(response: &[u8], out: &mut [u8]) -> u64
 }
 
 // The part of the list that the answer has: an accepted answer's own bytes.
-#[unsafe(no_mangle)]
-pub extern "C" fn ghj_suites(response: &[u8], out: &mut [u8]) -> u64
+pub fn ghj_suites(response: &[u8], out: &mut [u8]) -> u64
     ensures { Codes (suites_record response.now) result out.old out.new }
 {
     let answer = ChannelCipherSuites::parse(response);
@@ -54,8 +51,7 @@ pub extern "C" fn ghj_suites(response: &[u8], out: &mut [u8]) -> u64
 }
 
 // An answer by suite: its channel's number, then the part of the list.
-#[unsafe(no_mangle)]
-pub extern "C" fn ghj_by_suite(response: &[u8], out: &mut [u8]) -> u64
+pub fn ghj_by_suite(response: &[u8], out: &mut [u8]) -> u64
     ensures { Codes (by_suite_record response.now) result out.old out.new }
 {
     let read = ChannelSuites::parse(response);
@@ -67,8 +63,7 @@ pub extern "C" fn ghj_by_suite(response: &[u8], out: &mut [u8]) -> u64
     }
 }
 
-#[unsafe(no_mangle)]
-pub extern "C" fn ghj_access(response: &[u8], out: &mut [u8]) -> u64
+pub fn ghj_access(response: &[u8], out: &mut [u8]) -> u64
     ensures { Codes (access_record response.now) result out.old out.new }
 {
     match ChannelAccess::parse(response) {
@@ -77,8 +72,7 @@ pub extern "C" fn ghj_access(response: &[u8], out: &mut [u8]) -> u64
     }
 }
 
-#[unsafe(no_mangle)]
-pub extern "C" fn ghj_info(response: &[u8], out: &mut [u8]) -> u64
+pub fn ghj_info(response: &[u8], out: &mut [u8]) -> u64
     ensures { Codes (info_record response.now) result out.old out.new }
 {
     match ChannelInfo::parse(response) {
@@ -87,8 +81,7 @@ pub extern "C" fn ghj_info(response: &[u8], out: &mut [u8]) -> u64
     }
 }
 
-#[unsafe(no_mangle)]
-pub extern "C" fn ghj_capabilities(response: &[u8], out: &mut [u8]) -> u64
+pub fn ghj_capabilities(response: &[u8], out: &mut [u8]) -> u64
     ensures { Codes (capabilities_record response.now) result out.old out.new }
 {
     let answer = ChannelAuthenticationCapabilities::parse(response);

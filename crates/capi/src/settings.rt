@@ -10,8 +10,7 @@ use layouts::{access_record, set_access_layout, settings_layout, settings_record
 use set_access::set_channel_access::{AccessPair, CommandAnswer, SetChannelAccess, SettingsAnswer};
 
 // A pair is 0 leave, 1 non-volatile, 2 volatile.
-#[unsafe(no_mangle)]
-pub extern "C" fn ghj_set_access_request(
+pub fn ghj_set_access_request(
     channel: u8,
     mode_pair: u8,
     limit_pair: u8,
@@ -29,8 +28,7 @@ pub extern "C" fn ghj_set_access_request(
 }
 
 // Takes only what the function above writes.
-#[unsafe(no_mangle)]
-pub extern "C" fn ghj_set_access(request: &[u8], out: &mut [u8]) -> u64
+pub fn ghj_set_access(request: &[u8], out: &mut [u8]) -> u64
     ensures { Codes (set_access_record request.now) result out.old out.new }
 {
     match SetChannelAccess::read(request) {
@@ -40,8 +38,7 @@ pub extern "C" fn ghj_set_access(request: &[u8], out: &mut [u8]) -> u64
 }
 
 // Applying looks at no channel: the command has one only because every command has.
-#[unsafe(no_mangle)]
-pub extern "C" fn ghj_set_access_apply(
+pub fn ghj_set_access_apply(
     mode_pair: u8,
     limit_pair: u8,
     access: &[u8; 5],

@@ -10,8 +10,7 @@ use crate::number::NONE;
 use auth::{AuthType, AuthTypeAnswer, Ordering};
 
 // Each argument: 0 where the type is not offered.
-#[unsafe(no_mangle)]
-pub extern "C" fn ghj_best_auth(key: u8, md5: u8, md2: u8, none: u8) -> u64
+pub fn ghj_best_auth(key: u8, md5: u8, md2: u8, none: u8) -> u64
     ensures { result ≡ code (or_none auth_type_value (accepted (best_of (is_set key) (is_set md5) (is_set md2) (is_set none)))) }
 {
     match AuthType::best_of(key != 0, md5 != 0, md2 != 0, none != 0) {
@@ -31,8 +30,7 @@ fn order_number(order: Ordering) -> u64
 }
 
 // None where either number names no type.
-#[unsafe(no_mangle)]
-pub extern "C" fn ghj_compare_strength(auth_type: u8, other: u8) -> u64
+pub fn ghj_compare_strength(auth_type: u8, other: u8) -> u64
     ensures { result ≡ code (or_none order_number (compared auth_type other)) }
 {
     let AuthTypeAnswer::AuthType(kind) = AuthType::numbered(auth_type) else {

@@ -10,8 +10,7 @@ use base::written::place;
 use suites::get_channel_cipher_suites::{CipherSuite, Row, RowAnswer, SuiteAnswer};
 
 // The numbers of the suite's authentication, integrity and confidentiality.
-#[unsafe(no_mangle)]
-pub extern "C" fn ghj_suite_algorithms(suite: u8, out: &mut [u8]) -> u64
+pub fn ghj_suite_algorithms(suite: u8, out: &mut [u8]) -> u64
     ensures { CodesAny (accepted (algorithms_of suite)) result out.old out.new }
 {
     let RowAnswer::Row(row) = CipherSuite(suite).into_suite() else {
@@ -32,8 +31,7 @@ pub(crate) fn suite_number(answer: SuiteAnswer) -> u64
     }
 }
 
-#[unsafe(no_mangle)]
-pub extern "C" fn ghj_suite_of(authentication: u8, integrity: u8, confidentiality: u8) -> u64
+pub fn ghj_suite_of(authentication: u8, integrity: u8, confidentiality: u8) -> u64
     ensures { result ≡ code (or_none suite_number (accepted (suite_for (row authentication integrity confidentiality)))) }
 {
     suite_number(CipherSuite::from_suite(Row {

@@ -35,8 +35,7 @@ fn write_record(suite: TaggedRecord, out: &mut [u8]) -> Written
 }
 
 // The record at a position; at the end nothing is written, and the number is 0. The reading goes on from where the record ends.
-#[unsafe(no_mangle)]
-pub extern "C" fn ghj_tagged_step(list: &[u8], position: usize, out: &mut [u8]) -> u64
+pub fn ghj_tagged_step(list: &[u8], position: usize, out: &mut [u8]) -> u64
     ensures { Codes (step_record list.now position) result out.old out.new }
 {
     match step_at(list, position) {
@@ -46,8 +45,7 @@ pub extern "C" fn ghj_tagged_step(list: &[u8], position: usize, out: &mut [u8]) 
     }
 }
 
-#[unsafe(no_mangle)]
-pub extern "C" fn ghj_tagged_count(list: &[u8]) -> u64
+pub fn ghj_tagged_count(list: &[u8]) -> u64
     ensures { result ≡ code (count_of list.now) }
 {
     match count(list) {
@@ -57,32 +55,28 @@ pub extern "C" fn ghj_tagged_count(list: &[u8]) -> u64
 }
 
 // The records' numbers, in their order.
-#[unsafe(no_mangle)]
-pub extern "C" fn ghj_tagged_numbers(list: &[u8], out: &mut [u8]) -> u64
+pub fn ghj_tagged_numbers(list: &[u8], out: &mut [u8]) -> u64
     ensures { Codes (strict_numbers_of list.now) result out.old out.new }
 {
     code(suite_numbers(list, out))
 }
 
 // Five bytes a record: as the first five of `ghj_tagged_step`.
-#[unsafe(no_mangle)]
-pub extern "C" fn ghj_tagged_listing(list: &[u8], out: &mut [u8]) -> u64
+pub fn ghj_tagged_listing(list: &[u8], out: &mut [u8]) -> u64
     ensures { Codes (listing_of list.now) result out.old out.new }
 {
     code(suite_listing(list, out))
 }
 
 // The numbers of a record's integrity or confidentiality bytes, as `ghj_tagged_write` takes them.
-#[unsafe(no_mangle)]
-pub extern "C" fn ghj_tagged_algorithms(bytes: &[u8], out: &mut [u8]) -> u64
+pub fn ghj_tagged_algorithms(bytes: &[u8], out: &mut [u8]) -> u64
     ensures { Codes (accepted (numbers_in bytes.now)) result out.old out.new }
 {
     code(algorithm_numbers(bytes, out))
 }
 
 // Owner 0 is the standard's, with vendor 0; 1 is a vendor's own.
-#[unsafe(no_mangle)]
-pub extern "C" fn ghj_tagged_write(
+pub fn ghj_tagged_write(
     owner: u8,
     vendor: u32,
     number: u8,

@@ -12,14 +12,19 @@ ghost use Rattle.chandump.specs.Run.{Answered, Begun, Ended, Further, Ran, Ready
 
 use base::written::Written;
 use collector::Collector;
-use libc::types::timespec;
-use libc::{EAGAIN, EINTR, STDIN_FILENO, STDOUT_FILENO};
 use lines::kept;
+use std::env::{Env, FillError};
+use std::io::{Error, ErrorKind, Read, Write};
+use std::thread;
+use std::time::Duration;
 use stream::{LINE, begin, feed, finish};
 
 // A proved loop has to end, and nothing says that the input does, or that a file that does not block is ever ready: a loop
 // counts its calls down from a number that no run uses up.
 const CALLS: u64 = 0x0100_0000_0000;
+
+// What is read at a time, and the room for answers.
+const BLOCK: usize = 0x1_0000;
 
 // What came of a read.
 #[derive(Drop)]
@@ -39,28 +44,27 @@ struct Sent {
 }
 
 // A millisecond.
-const PAUSE: timespec = timespec {
-    tv_sec: 0,
-    tv_nsec: 1_000_000,
-};
-
-// A signal may end it early.
-fn sleep(asked: timespec) {
-    let mut left = asked;
-    libc::nanosleep(&asked, &mut left);
+fn pause(rt: HostRuntime) {
+    thread::sleep(&rt, Duration::from_millis(1));
 }
 
 // Is the call that failed to be tried again? After a signal at once; where a file that does not block has nothing or no
 // room, after a pause.
-fn again(error: i32) -> bool {
-    if error == EAGAIN {
-        sleep(PAUSE);
+fn again(rt: HostRuntime, error: Error) -> bool {
+    let kind = error.kind();
+    if kind == ErrorKind::WouldBlock {
+        pause(rt);
         return true;
     }
-    error == EINTR
+    kind == ErrorKind::Interrupted
 }
 
-fn send(text: &[u8], before: Sent) -> Sent
+// A fault, in a line on standard error. Where that cannot be written either, there is nobody to tell.
+fn fail(rt: HostRuntime, what: &str, error: Error) {
+    let _ = eprintln!(rt; "chandump: {what}: {error}");
+}
+
+fn send(rt: HostRuntime, text: &[u8], before: Sent) -> Sent
     requires { (before.done ≤ length text.now) × (0 < before.calls) }
     ensures { (result.done ≤ length text.now) × (result.calls < before.calls) }
 {
@@ -69,55 +73,59 @@ fn send(text: &[u8], before: Sent) -> Sent
     if part.len() == 0 {
         return Sent { done, calls: 0 };
     }
-    let got = libc::write(STDOUT_FILENO, part);
-    if got < 0 {
-        if again(os::errno()) {
-            return Sent {
-                done,
+    match rt.stdout().write(part) {
+        Ok(taken) => {
+            if taken == 0 {
+                pause(rt);
+            }
+            Sent {
+                done: done + taken,
                 calls: before.calls - 1,
-            };
+            }
         }
-        os::fail(b"chandump: standard output");
-        return Sent { done, calls: 0 };
-    }
-    let taken = io::count(got, part);
-    if taken == 0 {
-        sleep(PAUSE);
-    }
-    Sent {
-        done: done + taken,
-        calls: before.calls - 1,
+        Err(error) => {
+            if again(rt, error) {
+                return Sent {
+                    done,
+                    calls: before.calls - 1,
+                };
+            }
+            fail(rt, "standard output", error);
+            Sent { done, calls: 0 }
+        }
     }
 }
 
 // All is written, or the fault is said.
-fn written(text: &[u8]) -> bool {
+fn written(rt: HostRuntime, text: &[u8]) -> bool {
     let mut sent = Sent {
         done: 0,
         calls: CALLS,
     };
     while 0 < sent.calls {
-        sent = send(text, sent);
+        sent = send(rt, text, sent);
     }
     sent.done == text.len()
 }
 
-fn receive(block: &mut [u8]) -> Got
+fn receive(rt: HostRuntime, block: &mut [u8]) -> Got
     ensures { Within result (length block.old) }
 {
-    let got = libc::read(STDIN_FILENO, block);
-    if got < 0 {
-        if again(os::errno()) {
-            return Got::Nothing;
+    match rt.stdin().read(block) {
+        Ok(n) => {
+            if n == 0 {
+                return Got::End;
+            }
+            Got::Bytes(n)
         }
-        os::fail(b"chandump: standard input");
-        return Got::Fault;
+        Err(error) => {
+            if again(rt, error) {
+                return Got::Nothing;
+            }
+            fail(rt, "standard input", error);
+            Got::Fault
+        }
     }
-    let n = io::count(got, block);
-    if n == 0 {
-        return Got::End;
-    }
-    Got::Bytes(n)
 }
 
 // What the machine's arrays are: nothing runs here.
@@ -135,6 +143,7 @@ struct Part {
 
 // Lines of a block are answered, as many as have room, and the answers written.
 fn some(
+    rt: HostRuntime,
     bytes: &mut [u8; Collector::CAPACITY],
     marks: &mut [u8; Collector::PARTS],
     known: &mut [u8; Collector::KNOWN],
@@ -147,7 +156,7 @@ fn some(
     typed(*bytes, *marks);
     let fed = feed(bytes, marks, known, block, out);
     let put = fed.put;
-    let ok = written(&out[0..put]);
+    let ok = written(rt, &out[0..put]);
     Part {
         taken: fed.taken,
         put,
@@ -183,6 +192,7 @@ fn further(at: usize, part: Part) -> Way
 
 // All lines of a block.
 fn all(
+    rt: HostRuntime,
     bytes: &mut [u8; Collector::CAPACITY],
     marks: &mut [u8; Collector::PARTS],
     known: &mut [u8; Collector::KNOWN],
@@ -199,7 +209,7 @@ fn all(
     };
     while way.on {
         let at = way.at;
-        let part = some(bytes, marks, known, &block[at..], out);
+        let part = some(rt, bytes, marks, known, &block[at..], out);
         way = further(at, part);
     }
     way
@@ -215,6 +225,7 @@ struct Turn {
 
 // What was read up to a place is answered, and what is left of it kept.
 fn answer(
+    rt: HostRuntime,
     bytes: &mut [u8; Collector::CAPACITY],
     marks: &mut [u8; Collector::PARTS],
     known: &mut [u8; Collector::KNOWN],
@@ -226,7 +237,7 @@ fn answer(
     requires { Ran (take end block.old) (collector_of bytes.old marks.old known.old) × ((end ≤ length block.old) × ((limit < length block.old) × (enough ≤ length out.old))) }
     ensures { (0 < result.calls → Ready result.held block.new out.new (collector_of bytes.new marks.new known.new)) × (result.calls ≤ calls) }
 {
-    let way = all(bytes, marks, known, &block[0..end], out);
+    let way = all(rt, bytes, marks, known, &block[0..end], out);
     let held = kept(block, way.at, end, LINE);
     if way.ok {
         return Turn { held, calls };
@@ -236,6 +247,7 @@ fn answer(
 
 // The end of the input: a last line, which needs no newline.
 fn last(
+    rt: HostRuntime,
     bytes: &mut [u8; Collector::CAPACITY],
     marks: &mut [u8; Collector::PARTS],
     known: &mut [u8; Collector::KNOWN],
@@ -249,12 +261,13 @@ fn last(
     let Written::Length(put) = finish(bytes, marks, known, rest, out) else {
         return 0;
     };
-    written(&out[0..put]);
+    written(rt, &out[0..put]);
     put
 }
 
 // A read, and all that it brought.
 fn once(
+    rt: HostRuntime,
     bytes: &mut [u8; Collector::CAPACITY],
     marks: &mut [u8; Collector::PARTS],
     known: &mut [u8; Collector::KNOWN],
@@ -267,12 +280,12 @@ fn once(
 {
     let held = before.held;
     let calls = before.calls - 1;
-    let got = receive(&mut block[held..]);
+    let got = receive(rt, &mut block[held..]);
     match got {
-        Got::Bytes(n) => answer(bytes, marks, known, block, held + n, calls, out),
+        Got::Bytes(n) => answer(rt, bytes, marks, known, block, held + n, calls, out),
         Got::Nothing => Turn { held, calls },
         Got::End => {
-            last(bytes, marks, known, &block[0..held], out);
+            last(rt, bytes, marks, known, &block[0..held], out);
             Turn { held, calls: 0 }
         }
         Got::Fault => Turn { held, calls: 0 },
@@ -280,13 +293,13 @@ fn once(
 }
 
 // The heading, before anything is read.
-fn begun(out: &mut [u8]) -> Sent
+fn begun(rt: HostRuntime, out: &mut [u8]) -> Sent
     ensures { Begun result out.new }
 {
     let Written::Length(put) = begin(out) else {
         return Sent { done: 0, calls: 0 };
     };
-    if written(&out[0..put]) {
+    if written(rt, &out[0..put]) {
         return Sent {
             done: put,
             calls: CALLS,
@@ -296,6 +309,7 @@ fn begun(out: &mut [u8]) -> Sent
 }
 
 fn run(
+    rt: HostRuntime,
     bytes: &mut [u8; Collector::CAPACITY],
     marks: &mut [u8; Collector::PARTS],
     known: &mut [u8; Collector::KNOWN],
@@ -304,18 +318,19 @@ fn run(
 )
     requires { (collector_of bytes.old marks.old known.old ≡ fresh_stored) × ((limit < length block.old) × (enough ≤ length out.old)) }
 {
-    let first = begun(out);
+    let first = begun(rt, out);
     let mut turn = Turn {
         held: 0,
         calls: first.calls,
     };
     while 0 < turn.calls {
-        turn = once(bytes, marks, known, turn, block, out);
+        turn = once(rt, bytes, marks, known, turn, block, out);
     }
 }
 
-fn page() {
+fn page(rt: HostRuntime) {
     written(
+        rt,
         b"chandump shows what an IPMI management controller said of a channel. It takes no argument: it reads lines from
 standard input and answers each with a line.
 
@@ -338,15 +353,23 @@ A line that is refused is answered \"refused\" and a number:
     );
 }
 
-fn main() {
-    if 1 < os::arg_count() {
-        page();
+// Is there an argument? Of what it says nothing is taken.
+fn asked(rt: HostRuntime) -> bool {
+    match rt.arg(1, &mut []) {
+        Err(FillError::NotPresent) => false,
+        _ => true,
+    }
+}
+
+fn main(rt: HostRuntime) {
+    if asked(rt) {
+        page(rt);
         return;
     }
     let mut bytes = [0; Collector::CAPACITY];
     let mut marks = [0; Collector::PARTS];
     let mut known = [0; Collector::KNOWN];
-    let mut block = io::large_buffer();
-    let mut out = io::large_buffer();
-    run(&mut bytes, &mut marks, &mut known, &mut block, &mut out);
+    let mut block = [0u8; BLOCK];
+    let mut out = [0u8; BLOCK];
+    run(rt, &mut bytes, &mut marks, &mut known, &mut block, &mut out);
 }

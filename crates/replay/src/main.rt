@@ -7,8 +7,8 @@ ghost use Rattle.std.specs.Prelude.{◌<◌, ◌≤◌, length};
 use crate::question::answer;
 use base::little::bytes8;
 use base::text::digit;
-use libc::{STDIN_FILENO, STDOUT_FILENO};
 use lines::{kept, newline_from};
+use std::io::{Read, Write};
 
 mod arguments;
 mod calls;
@@ -29,6 +29,9 @@ const FILL: u8 = 0xEE;
 // question, whatever is left out of it.
 const LINE: usize = 4096;
 
+// What is read at a time.
+const BLOCK: usize = 0x1_0000;
+
 // The lent bytes as text, and the newline.
 const TEXT: usize = 3 * LENT + 1;
 
@@ -46,21 +49,21 @@ fn sign(bytes: &[u8], j: usize) -> u8 {
 }
 
 // As much of it as the text has room for.
-fn told(bytes: &[u8], text: &mut [u8]) {
+fn told(rt: HostRuntime, bytes: &[u8], text: &mut [u8]) {
     for j in 0..text.len() {
         text[j] = sign(bytes, j);
     }
-    io::write_all(STDOUT_FILENO, text);
+    let _ = rt.stdout().write_all(text);
 }
 
 // The tests hold in every run; they are there so that nothing has to be proved of the numbers.
-fn shown(number: u64, lent: &[u8], room: usize) {
+fn shown(rt: HostRuntime, number: u64, lent: &[u8], room: usize) {
     let mut pairs = [0u8; 24];
-    told(&bytes8(number as usize), &mut pairs);
+    told(rt, &bytes8(number as usize), &mut pairs);
     let mut text = [0u8; TEXT];
     if room <= lent.len() {
         if room <= LENT {
-            told(&lent[0..room], &mut text[0..3 * room + 1]);
+            told(rt, &lent[0..room], &mut text[0..3 * room + 1]);
         }
     }
 }
@@ -75,11 +78,11 @@ fn most(line: &[u8]) -> usize
     line.len()
 }
 
-fn answered(line: &[u8]) {
+fn answered(rt: HostRuntime, line: &[u8]) {
     let mut lent = [FILL; LENT];
     let end = most(line);
     let said = answer(&line[0..end], &mut lent);
-    shown(said.number, &lent, said.room);
+    shown(rt, said.number, &lent, said.room);
 }
 
 // Where the next line ends.
@@ -91,27 +94,40 @@ fn end_of(block: &[u8], at: usize) -> usize
 }
 
 // The lines of a block that are ended there are answered where they lie. Where its rest begins.
-fn fed(block: &[u8]) -> usize {
+fn fed(rt: HostRuntime, block: &[u8]) -> usize {
     let mut at: usize = 0;
     let mut end = end_of(block, 0);
     while end < block.len() {
-        answered(&block[at..end]);
+        answered(rt, &block[at..end]);
         at = end + 1;
         end = end_of(block, at);
     }
     at
 }
 
+// As much as there is room for, or as the input has. A read that fails ends it.
+fn read_full(rt: HostRuntime, room: &mut [u8]) -> usize {
+    let mut done: usize = 0;
+    while done < room.len() {
+        let n = rt.stdin().read(&mut room[done..]).unwrap_or(0);
+        if n == 0 {
+            return done;
+        }
+        done += n;
+    }
+    done
+}
+
 // What is read stands behind what is held of a line.
-fn read(block: &mut [u8], used: usize) -> usize {
+fn read(rt: HostRuntime, block: &mut [u8], used: usize) -> usize {
     if block.len() < used {
         return 0;
     }
-    io::read_full(STDIN_FILENO, &mut block[used..])
+    read_full(rt, &mut block[used..])
 }
 
 // Lines are answered as far as was read, and what is left is kept at the start of the block: how much that is.
-fn taken(block: &mut [u8], used: usize, n: usize) -> usize {
+fn taken(rt: HostRuntime, block: &mut [u8], used: usize, n: usize) -> usize {
     if block.len() < used {
         return 0;
     }
@@ -119,7 +135,7 @@ fn taken(block: &mut [u8], used: usize, n: usize) -> usize {
         return 0;
     }
     let end = used + n;
-    let at = fed(&block[0..end]);
+    let at = fed(rt, &block[0..end]);
     kept(block, at, end, LINE)
 }
 
@@ -136,29 +152,29 @@ fn left(budget: u64, n: usize) -> u64
 
 // A proved loop has to end, and nothing says that the input does: the loop counts its blocks down from a number that
 // no run uses up.
-fn run(block: &mut [u8]) -> usize {
+fn run(rt: HostRuntime, block: &mut [u8]) -> usize {
     let mut used: usize = 0;
     let mut budget: u64 = 0x0100_0000_0000;
     while budget > 0 {
-        let n = read(block, used);
-        used = taken(block, used, n);
+        let n = read(rt, block, used);
+        used = taken(rt, block, used, n);
         budget = left(budget, n);
     }
     used
 }
 
 // A last line that no newline ends.
-fn last(block: &[u8], used: usize) {
+fn last(rt: HostRuntime, block: &[u8], used: usize) {
     if used == 0 {
         return;
     }
     if used <= block.len() {
-        answered(&block[0..used]);
+        answered(rt, &block[0..used]);
     }
 }
 
-fn main() {
-    let mut block = io::large_buffer();
-    let used = run(&mut block);
-    last(&block, used);
+fn main(rt: HostRuntime) {
+    let mut block = [0u8; BLOCK];
+    let used = run(rt, &mut block);
+    last(rt, &block, used);
 }
