@@ -1,7 +1,7 @@
 """What tests/wrong and tests/promises both know of sources and of wrong versions.
 
 A wrong version is an edit, crates/NAME/must-fail/LABEL.edit or crates/NAME/wrong/LABEL.edit: `rt ci` tries the first kind, tests/wrong
-the second. Its first line says what it breaks; `# refused at: PLACE, FACT` names the function and the need of its proof, or the file
+both. Its first line says what it breaks; `# refused at: PLACE, FACT` names the function and the need of its proof, or the file
 and the law, that refuse it; then come replacements by rt's rules, `file:`, `old:` and `new:`.
 """
 import collections
@@ -17,7 +17,7 @@ KINDS = ("must-fail", "wrong")
 
 def crates():
     """The crates, in the order of crates.txt."""
-    return [line.split(":")[0].strip() for line in open("crates.txt") if ":" in line.split("#")[0]]
+    return [line.split(":")[0].split()[0] for line in open("crates.txt") if ":" in line.split("#")[0]]
 
 
 def edits_of(crate, *kinds):
@@ -119,13 +119,14 @@ def refusals(folder, log):
     places = r"/(proofs|specs)/([^\s:]*)\.antt:\d+:\d+: error: `([^`]*)`|/src/(\w+)\.rt:(\d+):\d+: it is not proved that .* \(`([^`]*)`\)"
     for m in re.finditer(places, log):
         said = log[m.start():].split("\n/", 1)[0]
+        walk = re.match(r"(.*)/(?:Answers|Invariants|Proof)$", m.group(2) or "")
         if m.group(4):
             yield function_at(folder, m.group(4), int(m.group(5))), m.group(6)
-        elif "was not admitted" in said:
+        elif "which was rejected" in said:
             continue
         elif re.search(r"that can be named from here|has no\s+field", said):
             yield "a proof file that does not fit", m.group(3)
-        elif m.group(2).endswith("/Proof"):
-            yield m.group(2)[:-len("/Proof")].replace("/", "."), m.group(3)
+        elif walk:
+            yield walk.group(1).replace("/", "."), m.group(3)
         else:
             yield "%s/%s.antt" % m.group(1, 2), m.group(3)
