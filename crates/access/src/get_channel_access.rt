@@ -11,7 +11,7 @@ use base::refusal::Refusal;
 use base::text::coded;
 use base::written::{Written, place};
 
-#[derive(Drop)]
+#[derive(Clone, Copy)]
 pub enum ChannelAccessType {
     NonVolatile,
     Volatile,
@@ -105,7 +105,7 @@ impl GetChannelAccess {
     }
 }
 
-#[derive(Drop)]
+#[derive(Clone, Copy)]
 pub struct ChannelAccess {
     pub access_mode: ChannelAccessMode,
     pub alerting_disabled: bool,
@@ -172,7 +172,7 @@ impl ChannelAccess {
 }
 
 // IPMI 2.0, Table 6-4.
-#[derive(Drop)]
+#[derive(Clone, Copy)]
 pub enum ChannelAccessMode {
     Disabled,
     PreBootOnly,
@@ -229,7 +229,7 @@ impl ChannelAccessMode {
     }
 }
 
-#[derive(Drop)]
+#[derive(Clone, Copy)]
 pub enum ChannelPrivilegeLevel {
     Reserved,
     Callback,

@@ -11,7 +11,7 @@ use base::refusal::Refusal;
 use base::written::{Written, place};
 
 // Which of a channel's two settings a part of the command sets: a pair of bits. `Reserved` is the pair 11.
-#[derive(Drop)]
+#[derive(Clone, Copy)]
 pub enum AccessPair {
     Leave,
     NonVolatile,
@@ -166,8 +166,8 @@ impl SetChannelAccess {
         })
     }
 
-    fn parts(self) -> PartsAnswer
-        ensures { said_parts result ≡ parts_bytes self }
+    fn parts(&self) -> PartsAnswer
+        ensures { said_parts result ≡ parts_bytes self.now }
     {
         let mode_pair = self.mode_pair;
         let limit_pair = self.limit_pair;
@@ -192,11 +192,12 @@ impl SetChannelAccess {
     pub fn write(self, out: &mut [u8]) -> Written
         ensures { Writes (command_bytes self) result out.old out.new }
     {
+        let parts = self.parts();
         let channel = self.channel;
         let FieldAnswer::Number(number) = channel.field() else {
             return Written::Refused(Refusal::NoForm);
         };
-        let PartsAnswer::Parts(parts) = self.parts() else {
+        let PartsAnswer::Parts(parts) = parts else {
             return Written::Refused(Refusal::NoForm);
         };
         place(&[number, parts.mode, parts.limit], out)
@@ -233,8 +234,8 @@ impl SetChannelAccess {
     }
 
     // One of the two settings, after the command.
-    fn changed(self, kind: ChannelAccessType, before: ChannelAccess) -> ChannelAccess
-        ensures { result ≡ changed kind self before }
+    fn changed(&self, kind: ChannelAccessType, before: ChannelAccess) -> ChannelAccess
+        ensures { result ≡ changed kind self.now before }
     {
         let mode_pair = self.mode_pair;
         let limit_pair = self.limit_pair;
