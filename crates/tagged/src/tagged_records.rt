@@ -13,7 +13,7 @@ use base::refusal::Refusal;
 use base::written::{Written, place};
 
 // Whose suite a record is: the standard's, or a vendor's own with the vendor's number.
-#[derive(Drop)]
+#[derive(Clone, Copy)]
 pub enum Owner {
     Standard,
     Vendor(u32),
