@@ -22,7 +22,6 @@ use Rattle.base.specs.declared.refusal.Refusal.{Refusal}
 use Rattle.base.specs.declared.verdict.Verdict.{Verdict}
 use Rattle.base.specs.declared.verdict.Verdict.TheVariants.{Refused}
 use Rattle.base.specs.declared.written.Written.{Written}
-use Rattle.base.specs.declared.written.Written.TheVariants as Written
 use Rattle.base.proofs.Outcome.{apart, otherwise, when, unfaulted, Only, steps, only_steps, only_refused, inside, ranged, only_ranged}
 use Rattle.base.proofs.Rows.{NoForm, nine, Strict, strict}
 use Rattle.base.proofs.connection.Laws.{channel_iff, channel_small, begins_only}
