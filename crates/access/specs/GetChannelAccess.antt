@@ -1,6 +1,6 @@
 -- Get Channel Access. Document 01, "Access"; IPMI 2.0, Table 22-28.
-use Rattle.std.specs.Prelude.{ℕ, ◌+◌, Bool, true, false, List, [], ◌∷◌, length, get_or}
-use Rattle.base.specs.Choice.{if◌then◌else◌, ◌<?◌, ◌=?◌}
+use Rattle.std.specs.Prelude.{ℕ, ◌+◌, Bool, true, false, List, [], ◌∷◌, length, get_or, if◌then◌else◌}
+use Rattle.base.specs.Choice.{◌<?◌, ◌=?◌}
 use Rattle.base.specs.Connection.{channel_of, channel_field}
 use Rattle.base.specs.Field.{byte, bits, flag, raised, within}
 use Rattle.base.specs.Outcome.{Outcome, accepted, refused, ◌>>=◌}

@@ -1,6 +1,6 @@
 -- Activate Session. Document 01, refusals 1, 3, 4 and 5, "activation 1, then 4, 3, 5"; IPMI 2.0, 22.17.
-use Rattle.std.specs.Prelude.{ℕ, ◌^◌, ◌<◌, List, [], ◌∷◌, ◌++◌, length, take, drop, replicate}
-use Rattle.base.specs.Choice.{if◌then◌else◌, ◌<?◌}
+use Rattle.std.specs.Prelude.{ℕ, ◌^◌, ◌<◌, List, [], ◌∷◌, ◌++◌, length, take, drop, replicate, if◌then◌else◌}
+use Rattle.base.specs.Choice.{◌<?◌}
 use Rattle.base.specs.Field.{Array, byte}
 use Rattle.base.specs.Little.{little, little_bytes}
 use Rattle.base.specs.Named.{named, required}

@@ -1,11 +1,11 @@
 -- Laws of authentication types and privilege levels.
-use Rattle.std.specs.Prelude.{◌≡◌, ℕ, ◌<◌, ◌≤◌, Bool, true, false, ltb, ◌↔◌, [], ◌∷◌, get_or}
+use Rattle.std.specs.Prelude.{◌≡◌, ℕ, ◌<◌, ◌≤◌, Bool, true, false, ltb, ◌↔◌, [], ◌∷◌, get_or, if◌then◌else◌}
 use mathlib.Core.Path.{refl, sym, ◌∙◌, ap}
 use mathlib.Core.Option.{Option, none, some}
 use native.Mathlib.Omega.{arith}
 use borrow.Author.Tests.{ltb-true, ltb-false, lt-ltb, le-ltb}
 use lib.Dec.{lit<, lit≤}
-use Rattle.base.specs.Choice.{if◌then◌else◌, ◌=?◌}
+use Rattle.base.specs.Choice.{◌=?◌}
 use Rattle.base.specs.Field.{bits}
 use Rattle.base.specs.Named.{named}
 use Rattle.auth.specs.Auth.{auth_types, auth_type_of, auth_type_value, best_of, privileges, privilege_of, privilege_value, rank, strength}

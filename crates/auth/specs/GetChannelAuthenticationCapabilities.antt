@@ -1,8 +1,8 @@
 -- Get Channel Authentication Capabilities. Document 01, "Capabilities"; IPMI 2.0, Table 22-15.
-use Rattle.std.specs.Prelude.{ℕ, ◌+◌, ◌-◌, Bool, true, false, not, List, [], ◌∷◌, length}
+use Rattle.std.specs.Prelude.{ℕ, ◌+◌, ◌-◌, Bool, true, false, not, List, [], ◌∷◌, length, if◌then◌else◌}
 use Rattle.std.proofs.Math.Option.{Option}
 use Rattle.auth.specs.Auth.{privileges, privilege_value, best_of}
-use Rattle.base.specs.Choice.{if◌then◌else◌, ◌<?◌}
+use Rattle.base.specs.Choice.{◌<?◌}
 use Rattle.base.specs.Connection.{channel_of, channel_field}
 use Rattle.base.specs.Field.{Array, Bytes, byte, flag, flags}
 use Rattle.base.specs.Named.{named, required}

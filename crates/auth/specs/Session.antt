@@ -1,6 +1,6 @@
 -- Session numbers. IPMI 2.0, 22.16 and 22.17: 0 is no session's.
-use Rattle.std.specs.Prelude.{ℕ, []}
-use Rattle.base.specs.Choice.{if◌then◌else◌, ◌=?◌}
+use Rattle.std.specs.Prelude.{ℕ, [], if◌then◌else◌}
+use Rattle.base.specs.Choice.{◌=?◌}
 use Rattle.base.specs.Outcome.{Outcome, accepted, refused}
 
 -- a session's number: 3 where it is read, 9 where it is to be written

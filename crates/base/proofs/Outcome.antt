@@ -7,7 +7,8 @@ use Prim.Native.Nat.{ℕ, ◌≤◌}
 use native.Mathlib.Omega.{arith}
 use borrow.Author.Tests.{ltb-false, le-ltb}
 use lib.Dec.{ltb}
-use Rattle.base.specs.Choice.{if◌then◌else◌, if◌from◌to◌then◌else◌}
+use Rattle.std.specs.Prelude.{if◌then◌else◌}
+use Rattle.base.specs.Choice.{if◌from◌to◌then◌else◌}
 use Rattle.base.specs.Outcome.{Outcome, accepted, refused, ◌>>=◌, faults_as}
 
 pub apart : {A : Type 0} {a : A} {n : ℕ} {v : List ℕ} → refused n v ≡ accepted a → ⊥

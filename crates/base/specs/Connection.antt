@@ -1,7 +1,7 @@
 -- Channels. Document 01: "0 Primary, 1 to 0xB numbered, 0xE Current, 0xF System"; IPMI 2.0, Table 6-1.
-use Rattle.std.specs.Prelude.{ℕ, List, [], ◌∷◌, ◌++◌}
+use Rattle.std.specs.Prelude.{ℕ, List, [], ◌∷◌, ◌++◌, if◌then◌else◌}
 use Rattle.std.proofs.Math.Option.{Option, none, some}
-use Rattle.base.specs.Choice.{if◌then◌else◌, if◌from◌to◌then◌else◌, ◌=?◌}
+use Rattle.base.specs.Choice.{if◌from◌to◌then◌else◌, ◌=?◌}
 use Rattle.base.specs.Field.{within}
 use Rattle.base.specs.Named.{named}
 use Rattle.base.specs.Outcome.{Outcome, accepted, refused, ◌>>=◌}

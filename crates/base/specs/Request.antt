@@ -1,6 +1,6 @@
 -- Requests. Document 01, row 10 of the refusals: NotARequest.
-use Rattle.std.specs.Prelude.{ℕ, List, [], length}
-use Rattle.base.specs.Choice.{if◌then◌else◌, ◌=?◌}
+use Rattle.std.specs.Prelude.{ℕ, List, [], length, if◌then◌else◌}
+use Rattle.base.specs.Choice.{◌=?◌}
 use Rattle.base.specs.Outcome.{Outcome, refused, faults_as}
 
 -- what the fields of a request come to, which has so many bytes: "a request reader turns every fault into 10", another length too

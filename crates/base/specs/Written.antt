@@ -1,6 +1,6 @@
 -- What a writer answers, and what it leaves in the lent buffer.
-use Rattle.std.specs.Prelude.{ℕ, ◌-◌, ◌≡◌, List, [], ◌++◌, length, drop, replicate}
-use Rattle.base.specs.Choice.{if◌then◌else◌, ◌<?◌}
+use Rattle.std.specs.Prelude.{ℕ, ◌-◌, ◌≡◌, List, [], ◌++◌, length, drop, replicate, if◌then◌else◌}
+use Rattle.base.specs.Choice.{◌<?◌}
 use Rattle.base.specs.Outcome.{Outcome, accepted, refused, ◌>>=◌}
 use Rattle.base.specs.Refusal.{refusal}
 use Rattle.base.specs.declared.written.Written.{Written}

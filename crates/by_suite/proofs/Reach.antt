@@ -8,7 +8,7 @@ use native.Mathlib.Omega.{arith}
 use lib.Dec.{eqb, ltb}
 use lib.ListN.{length}
 use borrow.Author.Tests.{eq-eqb, ne_eqb, eqb-true, eqb-false}
-use Rattle.base.specs.Choice.{if◌then◌else◌}
+use Rattle.std.specs.Prelude.{if◌then◌else◌}
 use Rattle.base.specs.Outcome.{Outcome, accepted, refused, ◌>>=◌}
 use Rattle.base.proofs.Outcome.{apart}
 use Rattle.collector.specs.Collector.{last_index, part_length}

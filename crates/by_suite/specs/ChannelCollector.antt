@@ -1,6 +1,6 @@
 -- The collector of one channel's answers. Document 02, C-12: "a collector is made for one of the two, and in the new one for a channel".
-use Rattle.std.specs.Prelude.{ℕ, suc, ◌-◌, Bool, false, List, []}
-use Rattle.base.specs.Choice.{if◌then◌else◌, ◌<?◌, ◌=?◌}
+use Rattle.std.specs.Prelude.{ℕ, suc, ◌-◌, Bool, false, List, [], if◌then◌else◌}
+use Rattle.base.specs.Choice.{◌<?◌, ◌=?◌}
 use Rattle.base.specs.Connection.{value_of}
 use Rattle.base.specs.Outcome.{Outcome, accepted, refused, ◌>>=◌}
 use Rattle.base.specs.declared.connection.Channel.TheVariants.{Current}

@@ -1,6 +1,6 @@
 -- Get Channel Cipher Suites, asked by suite. Document 02, C-12: "bit 7 of the request's last byte asks for the list by suite"; IPMI 2.0, Table 22-17.
-use Rattle.std.specs.Prelude.{ℕ, ◌+◌, ◌-◌, Bool, List, [], ◌∷◌, length, drop}
-use Rattle.base.specs.Choice.{if◌then◌else◌, ◌<?◌}
+use Rattle.std.specs.Prelude.{ℕ, ◌+◌, ◌-◌, Bool, List, [], ◌∷◌, length, drop, if◌then◌else◌}
+use Rattle.base.specs.Choice.{◌<?◌}
 use Rattle.base.specs.Connection.{channel_of, channel_field}
 use Rattle.base.specs.Field.{bits, byte, within}
 use Rattle.base.specs.Outcome.{Outcome, accepted, refused, ◌>>=◌, is_accepted}

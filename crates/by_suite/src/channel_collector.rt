@@ -1,7 +1,6 @@
 // A collector of one channel's answers as they come: document 02, C-12. It is the collector, and a byte beside it that says which
 // channel it takes answers from.
-ghost use Rattle.std.specs.Prelude.{◌≡◌, max};
-ghost use Rattle.base.specs.Choice.{if◌then◌else◌};
+ghost use Rattle.std.specs.Prelude.{◌≡◌, max, if◌then◌else◌};
 ghost use Rattle.base.specs.Refusal.{row};
 ghost use Rattle.base.specs.Verdict.{Gives};
 ghost use Rattle.base.specs.Written.{Writes};

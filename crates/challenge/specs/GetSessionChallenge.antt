@@ -1,6 +1,6 @@
 -- Get Session Challenge. Document 01, refusals 1, 3 and 8, "The name is padded with zeros and shown up to its first zero"; IPMI 2.0, 22.16.
-use Rattle.std.specs.Prelude.{ℕ, ◌^◌, ◌<◌, List, [], ◌∷◌, ◌++◌, length, drop, replicate}
-use Rattle.base.specs.Choice.{if◌then◌else◌, ◌<?◌, ◌=?◌}
+use Rattle.std.specs.Prelude.{ℕ, ◌^◌, ◌<◌, List, [], ◌∷◌, ◌++◌, length, drop, replicate, if◌then◌else◌}
+use Rattle.base.specs.Choice.{◌<?◌, ◌=?◌}
 use Rattle.base.specs.Field.{Array, byte}
 use Rattle.base.specs.Little.{little, little_bytes}
 use Rattle.base.specs.Named.{named, required}

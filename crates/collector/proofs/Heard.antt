@@ -7,7 +7,7 @@ use mathlib.Core.Bool.{Bool, true, false}
 use native.Mathlib.Omega.{arith}
 use lib.ListN.{length, get_or}
 use Rattle.collector.specs.Parts.{Parts}
-use Rattle.base.specs.Choice.{if◌then◌else◌}
+use Rattle.std.specs.Prelude.{if◌then◌else◌}
 use Rattle.base.specs.Outcome.{Outcome, accepted, refused, is_accepted}
 use Rattle.base.specs.Verdict.{record_of}
 use Rattle.base.proofs.little.Laws.{zero_at}

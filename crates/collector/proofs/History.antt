@@ -7,7 +7,7 @@ use native.Mathlib.Omega.{arith}
 use lib.ListN.{length, take}
 use lib.Seq.{length-take-le}
 use Rattle.collector.specs.Parts.{Parts}
-use Rattle.base.specs.Choice.{if◌then◌else◌}
+use Rattle.std.specs.Prelude.{if◌then◌else◌}
 use Rattle.base.specs.Field.{Bytes}
 use Rattle.base.specs.Outcome.{Outcome, refused, is_accepted}
 use Rattle.base.specs.Verdict.{record_of}

@@ -9,7 +9,7 @@ use lib.Seq.{length-paste}
 use lib.Dec.{ltb, eqb}
 use borrow.Author.Tests.{eq-eqb, ltb-true, ltb-false, eqb-true, eqb-false}
 use Rattle.collector.specs.Parts.{Parts}
-use Rattle.base.specs.Choice.{if◌then◌else◌}
+use Rattle.std.specs.Prelude.{if◌then◌else◌}
 use Rattle.base.specs.Field.{Bytes}
 use Rattle.base.specs.Outcome.{Outcome, accepted, refused}
 use Rattle.base.proofs.little.Laws.{bytes_paste, bytes_zeros, zero_at}

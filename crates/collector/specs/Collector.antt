@@ -1,7 +1,7 @@
 -- What a collector heard, its parts. Document 01: "It holds up to 64 parts with their lengths; bytes not heard are zero. The numbers 0x3F, 16 and 1,024 belong to the collector".
-use Rattle.std.specs.Prelude.{ℕ, zero, suc, ◌+◌, ◌-◌, ◌*◌, ◌/◌, ◌%◌, min, max, Bool, true, false, List, [], ◌∷◌, length, take, drop, get_or, set, replicate}
+use Rattle.std.specs.Prelude.{ℕ, zero, suc, ◌+◌, ◌-◌, ◌*◌, ◌/◌, ◌%◌, min, max, Bool, true, false, List, [], ◌∷◌, length, take, drop, get_or, set, replicate, if◌then◌else◌}
 use Rattle.std.proofs.Math.Seq.{paste}
-use Rattle.base.specs.Choice.{if◌then◌else◌, ◌<?◌, ◌=?◌}
+use Rattle.base.specs.Choice.{◌<?◌, ◌=?◌}
 use Rattle.base.specs.Outcome.{Outcome, accepted, refused, ◌>>=◌}
 use Rattle.collector.specs.Parts.{Parts}
 use Rattle.collector.specs.declared.Status.{Status}

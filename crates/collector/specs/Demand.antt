@@ -1,6 +1,5 @@
 -- Demand 3, of whatever takes answers: no word of how it stores them, nor of what an answer looks like. Last, the collector of document 01, and who answers it.
-use Rattle.std.specs.Prelude.{ℕ, suc, ◌/◌, ◌≤◌, ◌<◌, min, true, false, List, [], ◌∷◌, ◌↔◌, ◌⊎◌, ◌≡◌, length}
-use Rattle.base.specs.Choice.{if◌then◌else◌}
+use Rattle.std.specs.Prelude.{ℕ, suc, ◌/◌, ◌≤◌, ◌<◌, min, true, false, List, [], ◌∷◌, ◌↔◌, ◌⊎◌, ◌≡◌, length, if◌then◌else◌}
 use Rattle.base.specs.Field.{Bytes}
 use Rattle.base.specs.Outcome.{Outcome, accepted, is_accepted}
 use Rattle.base.specs.Verdict.{record_of}

@@ -1,7 +1,7 @@
 -- The collector: its parts, and what is known of them. Document 02, C-15: "Store it in the collector, with the completeness, and have every accepted answer keep both equal to what a search would find."
-use Rattle.std.specs.Prelude.{ℕ, Bool, List, [], ◌∷◌, ◌≡◌, get_or, replicate}
+use Rattle.std.specs.Prelude.{ℕ, Bool, List, [], ◌∷◌, ◌≡◌, get_or, replicate, if◌then◌else◌}
 use mir.Val.{bool_byte}
-use Rattle.base.specs.Choice.{if◌then◌else◌, ◌=?◌}
+use Rattle.base.specs.Choice.{◌=?◌}
 use Rattle.base.specs.Outcome.{Outcome, accepted, refused, ◌>>=◌}
 use Rattle.collector.specs.Collector.{◌and◌, parts, held, fresh, lowest, complete_by, well_formed, taking, Standing, standing_of, list_of}
 use Rattle.collector.specs.Demand.{Call, AllBytes, Keeper, made}

@@ -7,7 +7,7 @@ use native.Mathlib.Omega.{arith}
 use borrow.Author.Tests.{eqb-true}
 use lib.Dec.{eqb}
 use lib.ListN.{length}
-use Rattle.base.specs.Choice.{if◌then◌else◌}
+use Rattle.std.specs.Prelude.{if◌then◌else◌}
 use Rattle.collector.specs.Stored.{fresh_stored}
 use Rattle.lines.specs.Lines.{line_length, newline}
 use Rattle.dump.specs.Input.{Line, Lines, answers_from, heading, joined, last_line, lines_from, lines_of, output_of}

@@ -13,7 +13,7 @@ use Rattle.auth.specs.Auth.{said_auth_type}
 use Rattle.auth.specs.declared.AuthType.{AuthType}
 use Rattle.auth.specs.declared.AuthTypeAnswer.{AuthTypeAnswer}
 use Rattle.auth.specs.declared.AuthTypeAnswer.TheVariants as Best
-use Rattle.base.specs.Choice.{if◌then◌else◌}
+use Rattle.std.specs.Prelude.{if◌then◌else◌}
 use Rattle.base.specs.Outcome.{Outcome, accepted, refused, ◌>>=◌}
 use Rattle.base.specs.Refusal.{refusal, row}
 use Rattle.base.specs.Text.{ascii}

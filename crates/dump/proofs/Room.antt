@@ -11,7 +11,7 @@ use lib.ListN.{length, get_or, take, drop, length-append, length-drop, length-ta
 use Rattle.auth.specs.GetChannelAuthenticationCapabilities.{best_auth, capabilities_of}
 use Rattle.auth.specs.declared.AuthType.{AuthType}
 use Rattle.auth.specs.declared.get_channel_authentication_capabilities.ChannelAuthenticationCapabilities.{ChannelAuthenticationCapabilities}
-use Rattle.base.specs.Choice.{if◌then◌else◌}
+use Rattle.std.specs.Prelude.{if◌then◌else◌}
 use Rattle.base.specs.Connection.{channel_of}
 use Rattle.base.specs.Field.{Bytes, bits, byte, flag}
 use Rattle.base.specs.Outcome.{Outcome, accepted, refused, ◌>>=◌, faults_as}

@@ -1,6 +1,6 @@
 -- A whole input. Document 01: "After its heading it reads standard input by lines; .. a last line needs no newline".
-use Rattle.std.specs.Prelude.{ℕ, List, [], ◌∷◌, ◌++◌, ◌≡◌, length}
-use Rattle.base.specs.Choice.{if◌then◌else◌, ◌=?◌}
+use Rattle.std.specs.Prelude.{ℕ, List, [], ◌∷◌, ◌++◌, ◌≡◌, length, if◌then◌else◌}
+use Rattle.base.specs.Choice.{◌=?◌}
 use Rattle.base.specs.Text.{ascii}
 use Rattle.collector.specs.Stored.{fresh_stored}
 use Rattle.collector.specs.declared.Collector.{Collector}

@@ -1,6 +1,6 @@
 -- Get Channel Info. Document 01, "Info"; IPMI 2.0, Table 22-29.
-use Rattle.std.specs.Prelude.{ℕ, ◌+◌, ◌*◌, ◌^◌, List, [], ◌∷◌, ◌++◌, length}
-use Rattle.base.specs.Choice.{if◌then◌else◌, ◌<?◌}
+use Rattle.std.specs.Prelude.{ℕ, ◌+◌, ◌*◌, ◌^◌, List, [], ◌∷◌, ◌++◌, length, if◌then◌else◌}
+use Rattle.base.specs.Choice.{◌<?◌}
 use Rattle.base.specs.Connection.{channel_of, channel_field}
 use Rattle.base.specs.Field.{Bytes, byte, bits, within}
 use Rattle.base.specs.Little.{little, little_bytes}

@@ -8,7 +8,7 @@ use native.Mathlib.Omega.{arith}
 use lib.Dec.{eqb, ltb, lit<}
 use lib.ListN.{length, drop}
 use lib.Seq.{get_or-drop}
-use Rattle.base.specs.Choice.{if◌then◌else◌}
+use Rattle.std.specs.Prelude.{if◌then◌else◌}
 use Rattle.base.specs.Connection.{channel_field, channel_of}
 use Rattle.base.specs.Field.{Bytes, byte, bits, flag}
 use Rattle.base.specs.Little.{little, little_bytes}

@@ -10,7 +10,8 @@ use borrow.Author.Tests.{ltb-true, ltb-false, eqb-true, eqb-false, lt-ltb, le-lt
 use lib.Dec.{eqb, ltb}
 use lib.ListN.{length, get_or, take, drop, set, length-append, length-take, length-drop, length-set}
 use lib.Seq.{paste, drop-cons, drop-length, get_or-set_same, drop-set-lt, get_or-append-add, get_or-drop, length-take-le, take_all, take-take}
-use Rattle.base.specs.Choice.{if◌then◌else◌, if◌from◌to◌then◌else◌}
+use Rattle.std.specs.Prelude.{if◌then◌else◌}
+use Rattle.base.specs.Choice.{if◌from◌to◌then◌else◌}
 use Rattle.base.specs.Outcome.{Outcome, accepted, refused, ◌>>=◌, is_accepted}
 use Rattle.base.specs.Text.{digit}
 use Rattle.base.specs.Verdict.{record_of}

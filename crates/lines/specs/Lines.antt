@@ -1,6 +1,6 @@
 -- What stands in a line: hex pairs, numbers; where a line ends. Document 01, "chandump".
-use Rattle.std.specs.Prelude.{ℕ, zero, suc, ◌+◌, ◌-◌, ◌*◌, ◌/◌, ◌%◌, List, [], ◌∷◌, ◌++◌, ◌≡◌, length, take, drop}
-use Rattle.base.specs.Choice.{if◌then◌else◌, if◌from◌to◌then◌else◌, ◌<?◌, ◌=?◌}
+use Rattle.std.specs.Prelude.{ℕ, zero, suc, ◌+◌, ◌-◌, ◌*◌, ◌/◌, ◌%◌, List, [], ◌∷◌, ◌++◌, ◌≡◌, length, take, drop, if◌then◌else◌}
+use Rattle.base.specs.Choice.{if◌from◌to◌then◌else◌, ◌<?◌, ◌=?◌}
 use Rattle.base.specs.Outcome.{Outcome, accepted, refused, ◌>>=◌}
 use Rattle.base.specs.Text.{digit}
 

@@ -1,8 +1,8 @@
 // What stands in a line: hex pairs, numbers; where a line ends; what is kept of a block.
 #![tactic(auto)]
 
-ghost use Rattle.std.specs.Prelude.{◌≡◌, length, take, ℕ, ◌+◌, ◌-◌, ◌<◌, ◌≤◌, max, min};
-ghost use Rattle.base.specs.Choice.{if◌then◌else◌, if◌from◌to◌then◌else◌, ◌=?◌};
+ghost use Rattle.std.specs.Prelude.{◌≡◌, length, take, ℕ, ◌+◌, ◌-◌, ◌<◌, ◌≤◌, max, min, if◌then◌else◌};
+ghost use Rattle.base.specs.Choice.{if◌from◌to◌then◌else◌, ◌=?◌};
 ghost use Rattle.base.specs.Outcome.{accepted, is_accepted};
 ghost use Rattle.base.specs.Text.{hex2};
 ghost use Rattle.base.specs.Written.{Writes};

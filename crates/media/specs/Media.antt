@@ -1,6 +1,6 @@
 -- The types of Get Channel Info. Document 01, "Info"; IPMI 2.0, Tables 6-2, 6-3 and 22-29.
-use Rattle.std.specs.Prelude.{ℕ, List, [], ◌∷◌, get_or}
-use Rattle.base.specs.Choice.{if◌then◌else◌, if◌from◌to◌then◌else◌, ◌=?◌}
+use Rattle.std.specs.Prelude.{ℕ, List, [], ◌∷◌, get_or, if◌then◌else◌}
+use Rattle.base.specs.Choice.{if◌from◌to◌then◌else◌, ◌=?◌}
 use Rattle.base.specs.Field.{within}
 use Rattle.base.specs.Outcome.{Outcome, accepted, refused}
 use Rattle.base.specs.Text.{ascii, coded}

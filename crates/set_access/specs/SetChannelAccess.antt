@@ -1,6 +1,5 @@
 -- Set Channel Access. Document 02, C-11; IPMI 2.0, section 22.22.
-use Rattle.std.specs.Prelude.{ℕ, ◌+◌, ◌*◌, ◌^◌, Bool, true, false, List, [], ◌∷◌, get_or, drop}
-use Rattle.base.specs.Choice.{if◌then◌else◌}
+use Rattle.std.specs.Prelude.{ℕ, ◌+◌, ◌*◌, ◌^◌, Bool, true, false, List, [], ◌∷◌, get_or, drop, if◌then◌else◌}
 use Rattle.base.specs.Connection.{channel_of, channel_field}
 use Rattle.base.specs.Field.{byte, bits, within}
 use Rattle.base.specs.Outcome.{Outcome, accepted, refused, ◌>>=◌}

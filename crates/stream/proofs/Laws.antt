@@ -10,7 +10,7 @@ use borrow.Rule.Slice.PartMut.{mid_of, put_mid}
 use lib.Dec.{eqb, ltb}
 use lib.ListN.{length, take, drop, set, get_or, length-append, length-take, length-drop, drop_of_length-le, take-append-drop}
 use lib.Seq.{take_all, drop-append_seam, drop-append-le, take-append_seam, drop-drop, drop-cons, set_at}
-use Rattle.base.specs.Choice.{if◌then◌else◌}
+use Rattle.std.specs.Prelude.{if◌then◌else◌}
 use Rattle.base.specs.Outcome.{accepted}
 use Rattle.base.specs.Written.{Writes}
 use Rattle.base.specs.declared.refusal.Refusal.{Refusal}

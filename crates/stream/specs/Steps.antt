@@ -1,6 +1,5 @@
 -- What the lines of a block come to, a line at a time: the promises of private functions.
-use Rattle.std.specs.Prelude.{ℕ, ◌-◌, ◌≤◌, ◌<◌, true, List, [], ◌++◌, ◌≡◌, length, drop}
-use Rattle.base.specs.Choice.{if◌then◌else◌}
+use Rattle.std.specs.Prelude.{ℕ, ◌-◌, ◌≤◌, ◌<◌, true, List, [], ◌++◌, ◌≡◌, length, drop, if◌then◌else◌}
 use Rattle.collector.specs.declared.Collector.{Collector}
 use Rattle.stream.specs.Stream.{Feeds, ended_lines, fitting}
 use Rattle.stream.specs.declared.Progress.{Progress}

@@ -1,6 +1,6 @@
 -- chandump between reading and writing: what is answered of a block of the input, and what is left of it. Document 01, "chandump".
-use Rattle.std.specs.Prelude.{ℕ, suc, ◌-◌, List, [], ◌∷◌, ◌++◌, ◌≡◌, length, take, drop}
-use Rattle.base.specs.Choice.{if◌then◌else◌, ◌<?◌, ◌=?◌}
+use Rattle.std.specs.Prelude.{ℕ, suc, ◌-◌, List, [], ◌∷◌, ◌++◌, ◌≡◌, length, take, drop, if◌then◌else◌}
+use Rattle.base.specs.Choice.{◌<?◌, ◌=?◌}
 use Rattle.base.specs.Outcome.{accepted}
 use Rattle.base.specs.Written.{Writes}
 use Rattle.base.specs.declared.written.Written.{Written}

@@ -1,6 +1,6 @@
 -- The format of cipher suite records. Document 02, C-14; IPMI 2.0, Table 22-18. It says what records are as bytes, and nothing of reading them.
-use Rattle.std.specs.Prelude.{ℕ, ◌+◌, ◌*◌, ◌^◌, Bool, true, false, List, [], ◌∷◌, ◌++◌, map, ◌≡◌}
-use Rattle.base.specs.Choice.{if◌then◌else◌, ◌<?◌}
+use Rattle.std.specs.Prelude.{ℕ, ◌+◌, ◌*◌, ◌^◌, Bool, true, false, List, [], ◌∷◌, ◌++◌, map, ◌≡◌, if◌then◌else◌}
+use Rattle.base.specs.Choice.{◌<?◌}
 use Rattle.base.specs.Little.{little_bytes}
 use Rattle.tagged.specs.declared.tagged_records.Owner.{Owner}
 use Rattle.tagged.specs.declared.tagged_records.Owner.TheVariants.{Standard, Vendor}

@@ -1,8 +1,8 @@
 -- Reading and writing records with their tags. Document 02, C-14. A place is counted from the front of the lent list.
-use Rattle.std.specs.Prelude.{ℕ, zero, suc, ◌+◌, List, [], ◌∷◌, ◌++◌, map, length, take, drop}
+use Rattle.std.specs.Prelude.{ℕ, zero, suc, ◌+◌, List, [], ◌∷◌, ◌++◌, map, length, take, drop, if◌then◌else◌}
 use Rattle.std.proofs.Math.Option.{Option, none, some}
 use Rattle.std.proofs.Math.Seq.{slice}
-use Rattle.base.specs.Choice.{if◌then◌else◌, ◌<?◌, ◌=?◌}
+use Rattle.base.specs.Choice.{◌<?◌, ◌=?◌}
 use Rattle.base.specs.Field.{bits, byte}
 use Rattle.base.specs.Little.{little, little_bytes}
 use Rattle.base.specs.Outcome.{Outcome, accepted, refused, ◌>>=◌}

@@ -1,8 +1,8 @@
 // The standard's cipher suite records, read strictly and written: document 02, C-14; IPMI 2.0, Table 22-18.
-ghost use Rattle.std.specs.Prelude.{◌≡◌, [], ◌∷◌, ◌++◌, suc, ◌+◌, ◌<◌, ◌≤◌, length, take, true};
+ghost use Rattle.std.specs.Prelude.{◌≡◌, [], ◌∷◌, ◌++◌, suc, ◌+◌, ◌<◌, ◌≤◌, length, take, true, if◌then◌else◌};
 ghost use Rattle.tagged.specs.Format.{all_fit, confidentiality_tag, integrity_tag, own_start, owner_fits, standard_start, start_bytes};
 ghost use Rattle.tagged.specs.TaggedRecords.{body_at, count_of, end_of, entry, listing_of, numbers_in, reach, record_at, retagged, said_count, said_end, said_record, said_step, start_length, strict_numbers_of, strict_step_at, suite_from, suite_written};
-ghost use Rattle.base.specs.Choice.{if◌then◌else◌, ◌=?◌};
+ghost use Rattle.base.specs.Choice.{◌=?◌};
 ghost use Rattle.base.specs.Field.{byte};
 ghost use Rattle.base.specs.Outcome.{accepted};
 ghost use Rattle.tagged.specs.declared.tagged_records.TaggedRecord.{TaggedRecord};

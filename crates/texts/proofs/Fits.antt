@@ -8,7 +8,7 @@ use lib.ListN.{length}
 use Rattle.auth.specs.Auth.{auth_type_name}
 use Rattle.auth.specs.declared.AuthType.{AuthType}
 use Rattle.auth.specs.declared.AuthType.TheVariants.{None, MD2, MD5, Key}
-use Rattle.base.specs.Choice.{if◌then◌else◌}
+use Rattle.std.specs.Prelude.{if◌then◌else◌}
 use Rattle.base.specs.Connection.{channel_text}
 use Rattle.base.specs.Text.{ascii, digit, hex2}
 use Rattle.base.specs.declared.connection.Channel.{Channel}

@@ -1,11 +1,10 @@
 -- The texts of chandump's answers. Document 01, "chandump": "Counts and numbers are decimal but for Display texts and the auxiliary bytes".
-use Rattle.std.specs.Prelude.{ℕ, Bool, List, [], ◌∷◌, ◌++◌}
+use Rattle.std.specs.Prelude.{ℕ, Bool, List, [], ◌∷◌, ◌++◌, if◌then◌else◌}
 use Rattle.std.proofs.Math.Option.{Option, none, some}
 use Rattle.auth.specs.Auth.{auth_type_name}
 use Rattle.auth.specs.declared.AuthType.{AuthType}
 use Rattle.auth.specs.declared.AuthTypeAnswer.{AuthTypeAnswer}
 use Rattle.auth.specs.declared.AuthTypeAnswer.TheVariants as Answer
-use Rattle.base.specs.Choice.{if◌then◌else◌}
 use Rattle.base.specs.Connection.{channel_text}
 use Rattle.base.specs.Text.{ascii, hex2}
 use Rattle.access.specs.GetChannelAccess.{limit_text, mode_text}

@@ -10,7 +10,7 @@ use lib.Bits.{bit_or}
 use lib.Dec.{eqb, ltb, lit<, lit≤}
 use lib.ListN.{get_or-eq_default, length}
 use mir.Val.{bool_byte}
-use Rattle.base.specs.Choice.{if◌then◌else◌}
+use Rattle.std.specs.Prelude.{if◌then◌else◌}
 use Rattle.base.specs.Connection.{channel_of, channel_field}
 use Rattle.base.specs.Field.{Bytes, byte, bits, raised}
 use Rattle.access.specs.GetChannelAccess.{access_fields, access_of, access_bytes, command, command_of, command_bytes, limits, limit_of, limit_field, modes, mode_of, mode_field, type_of, type_byte, limit_value, mode_value}

@@ -8,7 +8,7 @@ use Prim.Native.Nat.{ℕ, ◌≤◌, ◌<◌}
 use native.Mathlib.Omega.{arith}
 use borrow.Author.Tests.{eqb-true, ne_eqb, le-ltb}
 use lib.Dec.{eqb, lit<}
-use Rattle.base.specs.Choice.{if◌then◌else◌}
+use Rattle.std.specs.Prelude.{if◌then◌else◌}
 use Rattle.base.specs.Connection.{channel_of, channel_number_of, channel_field, value_of, units, unit_of, unit_value}
 use Rattle.base.specs.Field.{bits}
 use Rattle.base.specs.Outcome.{Outcome, accepted, refused, ◌>>=◌}

@@ -10,7 +10,7 @@ use borrow.Rule.Slice.PartMut.{mid_of}
 use lib.Dec.{eqb, lit<, ltb}
 use lib.ListN.{length, take, drop, replicate, length-append, length-take, length-drop}
 use lib.Seq.{take_all, take-append_seam}
-use Rattle.base.specs.Choice.{if◌then◌else◌}
+use Rattle.std.specs.Prelude.{if◌then◌else◌}
 use Rattle.base.specs.Connection.{channel_of, channel_field}
 use Rattle.base.specs.Field.{Bytes, byte, within}
 use Rattle.base.specs.Outcome.{Outcome, accepted, refused, ◌>>=◌}

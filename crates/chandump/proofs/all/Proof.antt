@@ -3,7 +3,7 @@ use Prim.Native.Nat.{◌+◌, ◌-◌}
 use mathlib.Core.Path.{◌≡◌, refl}
 use native.Mathlib.Omega.{arith}
 use lib.ListN.{length}
-use Rattle.base.specs.Choice.{if◌then◌else◌}
+use Rattle.std.specs.Prelude.{if◌then◌else◌}
 use Rattle.collector.specs.Stored.{collector_of}
 use Rattle.chandump.proofs.Laws.{Stands, stands_first, stands_last, stands_less, stands_next, stands_within}
 use Rattle.chandump.proofs.all.Statement.{statement}

@@ -12,7 +12,7 @@ use lib.Dec.{ltb, eqb}
 use borrow.Author.Tests.{eq-eqb, ne_eqb, lt-ltb, le-ltb, ltb-false}
 use Rattle.collector.specs.Parts.{Parts}
 use Rattle.collector.specs.declared.shape.Shape.{Shape}
-use Rattle.base.specs.Choice.{if◌then◌else◌}
+use Rattle.std.specs.Prelude.{if◌then◌else◌}
 use Rattle.collector.specs.Collector.{end_of, least_to, lowest, marks_fit, bytes_fit, well_formed, put, complete_by}
 use Rattle.collector.specs.Shape.{max_to, filled, partly, free, top_to, gap_to, most_to, free_to, most, holes, shape_of, fits, complete_shape, ShapeFits, shape_with}
 use Rattle.collector.proofs.Basic.{true_not_false, both_right, bool_cases, lt_or_le, eq_or_ne, end_small, end_large, low_le, le_low, MarksOk, Zeros, marks_fact, fact_marks, bytes_fact, fact_bytes}

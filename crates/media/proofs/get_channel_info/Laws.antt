@@ -6,7 +6,8 @@ use native.Mathlib.Omega.{arith}
 use borrow.Author.Tests.{eqb-true, lt-ltb, le-ltb}
 use lib.Dec.{eqb, ltb, lit<}
 use lib.ListN.{get_or-eq_default}
-use Rattle.base.specs.Choice.{if◌then◌else◌, if◌from◌to◌then◌else◌}
+use Rattle.std.specs.Prelude.{if◌then◌else◌}
+use Rattle.base.specs.Choice.{if◌from◌to◌then◌else◌}
 use Rattle.base.specs.Field.{within}
 use Rattle.base.specs.Outcome.{accepted}
 use Rattle.base.proofs.field.Laws.{below, Kept, one, ranging, never, valued}

@@ -8,7 +8,7 @@ use native.Mathlib.Omega.{arith}
 use borrow.Author.Tests.{ltb-true}
 use lib.Dec.{eqb, ltb}
 use lib.ListN.{length, get_or}
-use Rattle.base.specs.Choice.{if◌then◌else◌}
+use Rattle.std.specs.Prelude.{if◌then◌else◌}
 use Rattle.base.specs.Field.{byte}
 use Rattle.suites.specs.GetChannelCipherSuites.{algorithms, before, gives, is_suite, moved, nothing, numbers_of, record_start, step_after, step_at, step_number, step_of, step_suite, suite, suite_of, suites, up_to}
 use Rattle.suites.specs.declared.get_channel_cipher_suites.CipherSuite.{CipherSuite}
