@@ -1,5 +1,5 @@
 -- Laws that the session's messages share: sixteen bytes, a session's number.
-use Rattle.core.specs.Prelude.{◌≡◌, ℕ, eqb, List, length, replicate}
+use Rattle.std.specs.Prelude.{◌≡◌, ℕ, eqb, List, length, replicate}
 use mathlib.Core.Path.{refl, sym, ◌∙◌}
 use lib.ListN.{length-replicate}
 use Rattle.base.specs.Outcome.{accepted, ◌>>=◌}

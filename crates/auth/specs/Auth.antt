@@ -1,5 +1,5 @@
 -- Authentication types, their strength, and privilege levels. Document 01: "AuthType 0, 1, 2, 4; strength order; PrivilegeLevel 1 to 5 from the low nibble".
-use Rattle.core.specs.Prelude.{ℕ, Bool, List, [], ◌∷◌}
+use Rattle.std.specs.Prelude.{ℕ, Bool, List, [], ◌∷◌}
 use Rattle.std.proofs.Math.Option.{Option, none, some}
 use Rattle.base.specs.Choice.{if◌then◌else◌, ◌<?◌}
 use Rattle.base.specs.Field.{bits}

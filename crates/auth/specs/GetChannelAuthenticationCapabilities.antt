@@ -1,5 +1,5 @@
 -- Get Channel Authentication Capabilities. Document 01, "Capabilities"; IPMI 2.0, Table 22-15.
-use Rattle.core.specs.Prelude.{ℕ, ◌+◌, ◌-◌, Bool, true, false, not, List, [], ◌∷◌, length}
+use Rattle.std.specs.Prelude.{ℕ, ◌+◌, ◌-◌, Bool, true, false, not, List, [], ◌∷◌, length}
 use Rattle.std.proofs.Math.Option.{Option}
 use Rattle.auth.specs.Auth.{privileges, privilege_value, best_of}
 use Rattle.base.specs.Choice.{if◌then◌else◌, ◌<?◌}

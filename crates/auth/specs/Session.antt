@@ -1,5 +1,5 @@
 -- Session numbers. IPMI 2.0, 22.16 and 22.17: 0 is no session's.
-use Rattle.core.specs.Prelude.{ℕ, []}
+use Rattle.std.specs.Prelude.{ℕ, []}
 use Rattle.base.specs.Choice.{if◌then◌else◌, ◌=?◌}
 use Rattle.base.specs.Outcome.{Outcome, accepted, refused}
 

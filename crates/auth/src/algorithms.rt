@@ -1,5 +1,5 @@
 // The three algorithms of a suite: the Rust's auth/algorithms.rs. `try_from` is its TryFrom<u8>, `value` its From for u8.
-ghost use Rattle.core.specs.Prelude.{◌≡◌};
+ghost use Rattle.std.specs.Prelude.{◌≡◌};
 ghost use Rattle.auth.specs.Algorithms.{authentication_of, authentication_value, confidentiality_of, confidentiality_value, integrity_of, integrity_value, said_authentication, said_confidentiality, said_integrity};
 ghost use Rattle.base.specs.Outcome.{accepted};
 

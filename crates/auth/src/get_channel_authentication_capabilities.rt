@@ -1,5 +1,5 @@
 // Get Channel Authentication Capabilities, App 38h: IPMI 2.0, Table 22-15; the Rust's get_channel_authentication_capabilities.rs.
-ghost use Rattle.core.specs.Prelude.{◌≡◌};
+ghost use Rattle.std.specs.Prelude.{◌≡◌};
 ghost use Rattle.auth.specs.Auth.{said_auth_type};
 ghost use Rattle.auth.specs.GetChannelAuthenticationCapabilities.{Typed, best_auth, capabilities_bytes, capabilities_from, capabilities_of, command, command_bytes, command_for, command_of, extended_of, no_capabilities, said_command};
 ghost use Rattle.base.specs.Outcome.{accepted};

@@ -1,7 +1,7 @@
 // The session's messages: the Rust's auth/mod.rs. `try_from` is its TryFrom<u8>, `value` its From for u8, `name` its Debug.
 #![tactic(auto)]
 
-ghost use Rattle.core.specs.Prelude.{◌≡◌};
+ghost use Rattle.std.specs.Prelude.{◌≡◌};
 ghost use Rattle.auth.specs.Auth.{auth_type_name, auth_type_of, auth_type_value, auth_types, best_of, privilege_of, privilege_value, privileges, rank, said_auth_type, said_privilege, strength};
 ghost use Rattle.base.specs.Named.{named};
 ghost use Rattle.base.specs.Outcome.{accepted};

@@ -1,5 +1,5 @@
 -- Laws of algorithms: a number names exactly the algorithm whose number it is.
-use Rattle.core.specs.Prelude.{◌≡◌, ℕ, ◌↔◌}
+use Rattle.std.specs.Prelude.{◌≡◌, ℕ, ◌↔◌}
 use mathlib.Core.Path.{refl}
 use mathlib.Core.Option.{some}
 use Rattle.auth.specs.Algorithms.{authentications, authentication_of, authentication_value, confidentialities, confidentiality_of, confidentiality_value, integrities, integrity_of, integrity_value}
