@@ -4,7 +4,6 @@ use Rattle.base.proofs.Unique.{Unique, both, writer}
 use Rattle.base.proofs.verdict.Laws.{beside}
 use Rattle.collector.proofs as p
 use Rattle.collector.proofs.Said.{status_one}
-use Rattle.base.proofs.Walked.{UniqueWalk, facts}
 
 pub answer_in_unique : Unique p.answer_in.Kinds.ps p.answer_in.Kinds.r p.answer_in.Reads.Asked p.answer_in.Reads.Learnt
 answer_in_unique κs a ok z z' w w' q q' = (beside (λ verdict left. verdict) q q', beside (λ verdict left. (left.bytes, (left.marks, (left.known, (tt, (tt, tt)))))) q q')
@@ -15,8 +14,8 @@ status_in_unique κs a ok z z' w w' q q' = (status_one z z' (both q q'), refl)
 pub list_in_unique : Unique p.list_in.Kinds.ps p.list_in.Kinds.r p.list_in.Reads.Asked p.list_in.Reads.Learnt
 list_in_unique κs a ok z z' w w' q q' = writer 3 q q'
 
-pub answer_lent_unique : UniqueWalk p.answer_lent.ended (λ M 𝓤 𝓛 mem run. p.answer_lent.clauses 𝓛 mem run)
-answer_lent_unique M 𝓤 𝓛 mem run κs a g z z' w w' = facts 𝓤 (λ q q'. (beside (λ verdict left. verdict) q q', beside (λ verdict left. (left, (tt, (tt, tt)))) q q'))
+pub answer_lent_unique : Unique p.answer_lent.Kinds.ps p.answer_lent.Kinds.r p.answer_lent.Reads.Asked p.answer_lent.Reads.Learnt
+answer_lent_unique κs a ok z z' w w' q q' = (beside (λ verdict left. verdict) q q', beside (λ verdict left. (left, (tt, (tt, tt)))) q q')
 
 pub collector_fresh_unique : Unique p.Collector.fresh.Kinds.ps p.Collector.fresh.Kinds.r p.Collector.fresh.Reads.Asked p.Collector.fresh.Reads.Learnt
 collector_fresh_unique κs a ok z z' w w' q q' = (both q q', refl)

@@ -23,7 +23,7 @@ mod shape;
 // not heard, and one more than its length where it was. Known is what a search would find: the lowest unheard index, PARTS
 // where there is none, then 1 where the list is complete.
 #[repr(C)]
-#[derive(Drop)]
+#[derive(Clone, Copy)]
 pub struct Collector {
     pub bytes: [u8; Collector::CAPACITY],
     pub marks: [u8; Collector::PARTS],

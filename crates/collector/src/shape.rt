@@ -11,7 +11,7 @@ pub(crate) const FULL: u8 = Collector::PART as u8 + 1;
 
 // Of the indexes i: the largest i + 1 whose part is not empty, the largest PARTS - i whose part is heard and not full,
 // the largest mark, the largest PARTS - i that is not heard.
-#[derive(Drop)]
+#[derive(Clone, Copy)]
 pub(crate) struct Shape {
     pub(crate) top: u8,
     pub(crate) gap: u8,

@@ -2,7 +2,6 @@
 use mathlib.Core.Path.{refl, ap}
 use Rattle.auth.proofs.Said.{authentication_one, confidentiality_one, integrity_one}
 use Rattle.base.proofs.Unique.{Unique, UniquePart, both, writer}
-use Rattle.base.proofs.Walked.{UniqueWalk, facts}
 use Rattle.base.proofs.verdict.Laws.{beside}
 use Rattle.suites.proofs as p
 use Rattle.suites.proofs.Said.{command_one, row_one, suite_one}
@@ -61,9 +60,8 @@ collected_suites_in_unique κs a ok z z' w w' q q' = writer 3 q q'
 pub collected_suites_unique : Unique p.collected.collected_suites.Kinds.ps p.collected.collected_suites.Kinds.r p.collected.collected_suites.Reads.Asked p.collected.collected_suites.Reads.Learnt
 collected_suites_unique κs a ok z z' w w' q q' = writer 1 q q'
 
--- the reader that holds the list is proved by walks
-pub iter_parse_full_data_unique : UniqueWalk p.get_channel_cipher_suites.Iter.parse_full_data.ended (λ M 𝓤 𝓛 mem run. p.get_channel_cipher_suites.Iter.parse_full_data.clauses 𝓛 mem run)
-iter_parse_full_data_unique M 𝓤 𝓛 mem run κs a g z z' w w' = facts 𝓤 (λ q q'. (rw (q.0, q.1.0, q.1.1, q'.0, q'.1.0, q'.1.1), refl))
+pub iter_parse_full_data_unique : Unique p.get_channel_cipher_suites.Iter.parse_full_data.Kinds.ps p.get_channel_cipher_suites.Iter.parse_full_data.Kinds.r p.get_channel_cipher_suites.Iter.parse_full_data.Reads.Asked p.get_channel_cipher_suites.Iter.parse_full_data.Reads.Learnt
+iter_parse_full_data_unique κs a ok z z' w w' q q' = (rw (q.0, q.1.0, q.1.1, q'.0, q'.1.0, q'.1.1), refl)
 
-pub iter_next_unique : UniqueWalk p.get_channel_cipher_suites.Iter.next.ended (λ M 𝓤 𝓛 mem run. p.get_channel_cipher_suites.Iter.next.clauses 𝓛 mem run)
-iter_next_unique M 𝓤 𝓛 mem run κs a g z z' w w' = facts 𝓤 (λ q q'. (both q.0 q'.0, ap (λ x. (x, tt)) (both q.1 q'.1)))
+pub iter_next_unique : Unique p.get_channel_cipher_suites.Iter.next.Kinds.ps p.get_channel_cipher_suites.Iter.next.Kinds.r p.get_channel_cipher_suites.Iter.next.Reads.Asked p.get_channel_cipher_suites.Iter.next.Reads.Learnt
+iter_next_unique κs a ok z z' w w' q q' = (both q.0 q'.0, ap (λ x. (x, tt)) (both q.1 q'.1))

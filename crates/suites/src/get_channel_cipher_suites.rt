@@ -178,7 +178,7 @@ impl ChannelCipherSuites {
 }
 
 // The numbers of a suite's three algorithms: a row of the table.
-#[derive(Drop)]
+#[derive(Clone, Copy)]
 pub struct Row {
     pub authentication: u8,
     pub integrity: u8,
