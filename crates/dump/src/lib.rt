@@ -207,8 +207,7 @@ fn end(
     ensures { Answers (ending (collector_of bytes.old marks.old known.old)) result out.old out.new (collector_of bytes.old marks.old known.old) (collector_of bytes.new marks.new known.new) }
 {
     let answered = list(bytes, marks, known, out);
-    let written = answered.written;
-    match written {
+    match answered.written {
         Written::Length(_) => {
             *bytes = [0; Collector::CAPACITY];
             *marks = [0; Collector::PARTS];
