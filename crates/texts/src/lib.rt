@@ -188,19 +188,18 @@ fn put_state(label: &[u8], disabled: bool, into: &mut [u8], at: usize) -> usize
     put(b"on", into, first)
 }
 
-fn access_states(
-    alerting_disabled: bool,
-    per_msg_auth_disabled: bool,
-    user_level_auth_disabled: bool,
-    into: &mut [u8],
-    at: usize,
-) -> usize
+fn access_states(access: ChannelAccess, into: &mut [u8], at: usize) -> usize
     requires { at + 47 ≤ length into.old }
-    ensures { Adds 47 ((ascii ", alerting " ++ state_text alerting_disabled) ++ (ascii ", per-message " ++ state_text per_msg_auth_disabled) ++ (ascii ", user-level " ++ state_text user_level_auth_disabled)) into.old at into.new result }
+    ensures { Adds 47 ((ascii ", alerting " ++ state_text access.alerting_disabled) ++ (ascii ", per-message " ++ state_text access.per_msg_auth_disabled) ++ (ascii ", user-level " ++ state_text access.user_level_auth_disabled)) into.old at into.new result }
 {
-    let first = put_state(b", alerting ", alerting_disabled, into, at);
-    let second = put_state(b", per-message ", per_msg_auth_disabled, into, first);
-    put_state(b", user-level ", user_level_auth_disabled, into, second)
+    let first = put_state(b", alerting ", access.alerting_disabled, into, at);
+    let second = put_state(b", per-message ", access.per_msg_auth_disabled, into, first);
+    put_state(
+        b", user-level ",
+        access.user_level_auth_disabled,
+        into,
+        second,
+    )
 }
 
 pub fn access_text(access: ChannelAccess, out: &mut [u8]) -> Written
@@ -211,13 +210,7 @@ pub fn access_text(access: ChannelAccess, out: &mut [u8]) -> Written
     let mut text = [0u8; ROOM];
     let first = put(b"access ", &mut text, 0);
     let second = put_mode(mode, &mut text, first);
-    let third = access_states(
-        access.alerting_disabled,
-        access.per_msg_auth_disabled,
-        access.user_level_auth_disabled,
-        &mut text,
-        second,
-    );
+    let third = access_states(access, &mut text, second);
     let fourth = put(b", limit ", &mut text, third);
     let end = put_limit(limit, &mut text, fourth);
     place(&text[0..end], out)
