@@ -19,7 +19,7 @@ pub const APP_RESPONSE: u8 = 0x07;
 #[derive(Drop)]
 pub struct Address(pub u8);
 
-#[derive(Drop)]
+#[derive(Clone, Copy)]
 pub struct ChannelNumber(pub u8);
 
 #[derive(Drop)]
@@ -60,7 +60,7 @@ impl ChannelNumber {
     }
 }
 
-#[derive(Drop)]
+#[derive(Clone, Copy)]
 pub enum Channel {
     Primary,
     Numbered(ChannelNumber),

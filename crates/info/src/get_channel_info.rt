@@ -66,7 +66,7 @@ impl GetChannelInfo {
     }
 }
 
-#[derive(Drop)]
+#[derive(Clone, Copy)]
 pub struct ChannelInfo {
     pub channel: Channel,
     pub medium_type: ChannelMediumType,
@@ -77,7 +77,7 @@ pub struct ChannelInfo {
     pub aux_info: AuxChannelInfo,
 }
 
-#[derive(Drop)]
+#[derive(Clone, Copy)]
 pub struct AuxChannelInfo {
     pub byte1: u8,
     pub byte2: u8,

@@ -10,7 +10,7 @@ use base::text::coded;
 use base::written::{Written, place};
 
 // IPMI 2.0, Table 6-3.
-#[derive(Drop)]
+#[derive(Clone, Copy)]
 pub enum ChannelMediumType {
     Reserved,
     Ipmb,
@@ -109,7 +109,7 @@ impl ChannelMediumType {
 }
 
 // IPMI 2.0, Table 6-2.
-#[derive(Drop)]
+#[derive(Clone, Copy)]
 pub enum ChannelProtocolType {
     Reserved,
     IpmbV1_0,
@@ -196,7 +196,7 @@ impl ChannelProtocolType {
 }
 
 // IPMI 2.0, Table 22-29, byte 3.
-#[derive(Drop)]
+#[derive(Clone, Copy)]
 pub enum ChannelSessionSupport {
     Sessionless,
     SingleSession,

@@ -102,7 +102,7 @@ impl AccessPair {
 }
 
 // `mode_pair` speaks of the mode and the disable bits of `access`, `limit_pair` of its limit.
-#[derive(Drop)]
+#[derive(Clone, Copy)]
 pub struct SetChannelAccess {
     pub channel: Channel,
     pub mode_pair: AccessPair,
@@ -166,8 +166,8 @@ impl SetChannelAccess {
         })
     }
 
-    fn parts(&self) -> PartsAnswer
-        ensures { said_parts result ≡ parts_bytes self.now }
+    fn parts(self) -> PartsAnswer
+        ensures { said_parts result ≡ parts_bytes self }
     {
         let mode_pair = self.mode_pair;
         let limit_pair = self.limit_pair;
@@ -192,12 +192,11 @@ impl SetChannelAccess {
     pub fn write(self, out: &mut [u8]) -> Written
         ensures { Writes (command_bytes self) result out.old out.new }
     {
-        let parts = self.parts();
         let channel = self.channel;
         let FieldAnswer::Number(number) = channel.field() else {
             return Written::Refused(Refusal::NoForm);
         };
-        let PartsAnswer::Parts(parts) = parts else {
+        let PartsAnswer::Parts(parts) = self.parts() else {
             return Written::Refused(Refusal::NoForm);
         };
         place(&[number, parts.mode, parts.limit], out)
@@ -234,8 +233,8 @@ impl SetChannelAccess {
     }
 
     // One of the two settings, after the command.
-    fn changed(&self, kind: ChannelAccessType, before: ChannelAccess) -> ChannelAccess
-        ensures { result ≡ changed kind self.now before }
+    fn changed(self, kind: ChannelAccessType, before: ChannelAccess) -> ChannelAccess
+        ensures { result ≡ changed kind self before }
     {
         let mode_pair = self.mode_pair;
         let limit_pair = self.limit_pair;

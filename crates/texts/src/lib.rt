@@ -118,37 +118,36 @@ fn put_name(kind: AuthType, into: &mut [u8], at: usize) -> usize
     past(at, written)
 }
 
-fn info_channel(channel: Channel, medium: ChannelMediumType, into: &mut [u8], at: usize) -> usize
+fn info_channel(info: ChannelInfo, into: &mut [u8], at: usize) -> usize
     requires { at + 47 ≤ length into.old }
-    ensures { Adds 47 (ascii "info " ++ channel_text channel ++ ascii ", " ++ medium_text medium) into.old at into.new result }
+    ensures { Adds 47 (ascii "info " ++ channel_text info.channel ++ ascii ", " ++ medium_text info.medium_type) into.old at into.new result }
 {
+    let channel = info.channel;
+    let medium = info.medium_type;
     let first = put(b"info ", into, at);
     let second = put_channel(channel, into, first);
     let third = put(b", ", into, second);
     put_medium(medium, into, third)
 }
 
-fn info_session(
-    protocol: ChannelProtocolType,
-    session: ChannelSessionSupport,
-    into: &mut [u8],
-    at: usize,
-) -> usize
+fn info_session(info: ChannelInfo, into: &mut [u8], at: usize) -> usize
     requires { at + 34 ≤ length into.old }
-    ensures { Adds 34 (ascii ", " ++ protocol_text protocol ++ ascii ", " ++ session_text session) into.old at into.new result }
+    ensures { Adds 34 (ascii ", " ++ protocol_text info.protocol_type ++ ascii ", " ++ session_text info.session_support) into.old at into.new result }
 {
+    let protocol = info.protocol_type;
+    let session = info.session_support;
     let first = put(b", ", into, at);
     let second = put_protocol(protocol, into, first);
     let third = put(b", ", into, second);
     put_session(session, into, third)
 }
 
-fn info_vendor(active_sessions: u8, vendor_id: u32, into: &mut [u8], at: usize) -> usize
+fn info_vendor(info: ChannelInfo, into: &mut [u8], at: usize) -> usize
     requires { at + 58 ≤ length into.old }
-    ensures { Adds 58 (ascii ", " ++ decimal active_sessions ++ ascii " active, vendor " ++ decimal vendor_id) into.old at into.new result }
+    ensures { Adds 58 (ascii ", " ++ decimal info.active_sessions ++ ascii " active, vendor " ++ decimal info.vendor_id) into.old at into.new result }
 {
-    let active = active_sessions as u64;
-    let vendor = vendor_id as u64;
+    let active = info.active_sessions as u64;
+    let vendor = info.vendor_id as u64;
     let first = put(b", ", into, at);
     let second = put_number(active, into, first);
     let third = put(b" active, vendor ", into, second);
@@ -168,11 +167,12 @@ fn info_aux(aux: AuxChannelInfo, into: &mut [u8], at: usize) -> usize
 pub fn info_text(info: ChannelInfo, out: &mut [u8]) -> Written
     ensures { Writes (accepted (info_text info)) result out.old out.new }
 {
+    let aux = info.aux_info;
     let mut text = [0u8; ROOM];
-    let first = info_channel(info.channel, info.medium_type, &mut text, 0);
-    let second = info_session(info.protocol_type, info.session_support, &mut text, first);
-    let third = info_vendor(info.active_sessions, info.vendor_id, &mut text, second);
-    let end = info_aux(info.aux_info, &mut text, third);
+    let first = info_channel(info, &mut text, 0);
+    let second = info_session(info, &mut text, first);
+    let third = info_vendor(info, &mut text, second);
+    let end = info_aux(aux, &mut text, third);
     place(&text[0..end], out)
 }
 

@@ -9,11 +9,11 @@ use Rattle.set_access.proofs.set_channel_access.SetChannelAccess.parts.Goals as 
 pub returns-in_default-write : goal.returns-in_default-write
 returns-in_default-write c =
     rw
-    (← c.field.ensures, c.in-Number.is, ← c.field-2.ensures, c.in-Number-field.is, not_shown c.args.self.now.access (rw c.in_default-write.is at c.write.ensures))
+    (← c.field.ensures, c.in-Number.is, ← c.field-2.ensures, c.in-Number-field.is, not_shown c.args.self.access (rw c.in_default-write.is at c.write.ensures))
 
 pub returns : goal.returns
 returns c =
-    let self = c.args.self.now in
+    let self = c.args.self in
     let m = c.in-Number.mode in
     let l = c.in-Number-field.limit in
     let e = shown self.access (rw c.in-Length.is at c.write.ensures) in

@@ -7,4 +7,4 @@ returns-in_default c = refusing NoForm c.args.out.now (rw (← c.field.ensures, 
 
 pub returns-in_default-parts : goal.returns-in_default-parts
 returns-in_default-parts c =
-    refusing NoForm c.args.out.now (rw (← c.field.ensures, c.in-Number.is, ← c.parts-parts.ensures, c.in_default-parts.is))
+    refusing NoForm c.args.out.now (rw (← c.field.ensures, c.in-Number.is, ← c.parts.ensures, c.in_default-parts.is))
