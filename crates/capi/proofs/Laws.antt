@@ -12,7 +12,6 @@ use Rattle.base.specs.Written.{Writes, length_of, over, said_written, written}
 use Rattle.base.specs.declared.written.Written.{Written}
 use Rattle.base.specs.declared.refusal.Refusal.{Refusal}
 use Rattle.base.specs.declared.verdict.Verdict.{Verdict}
-use Rattle.base.specs.declared.written.Written.TheVariants as Written
 use Rattle.base.proofs.Named.{nothing}
 use Rattle.base.proofs.written.Laws.{fitting, refusing}
 use Rattle.capi.specs.Number.{Codes, CodesAny, Takes, code, none_bit, plain}

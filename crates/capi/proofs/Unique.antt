@@ -4,7 +4,6 @@ use mathlib.Core.Path.{◌≡◌, refl, ◌∙◌, ap}
 use mathlib.Core.Option.{Option}
 use Prim.Native.Nat.{ℕ}
 use Rattle.base.proofs.Unique.{Unique, both, last}
-use Rattle.base.proofs.Walked.{UniqueWalk, facts}
 use Rattle.base.specs.Outcome.{Outcome}
 use Rattle.by_suite.specs.ChannelCollector.{lent_as}
 use Rattle.by_suite.specs.declared.channel_collector.ChannelCollector.{ChannelCollector}
@@ -47,8 +46,8 @@ ghj_collector_list_unique κs a ok z z' w w' q q' = coder 3 q q'
 pub ghj_collector_suites_unique : Unique p.collecting.ghj_collector_suites.Kinds.ps p.collecting.ghj_collector_suites.Kinds.r p.collecting.ghj_collector_suites.Reads.Asked p.collecting.ghj_collector_suites.Reads.Learnt
 ghj_collector_suites_unique κs a ok z z' w w' q q' = coder 3 q q'
 
-pub ghj_collector_take_unique : UniqueWalk p.collecting.ghj_collector_take.ended (λ M 𝓤 𝓛 mem run. p.collecting.ghj_collector_take.clauses 𝓛 mem run)
-ghj_collector_take_unique M 𝓤 𝓛 mem run κs a g z z' w w' = facts 𝓤 (λ q q'. (both q.answers q'.answers, ap (λ x. (x, (tt, (tt, tt)))) (both q.leaves q'.leaves)))
+pub ghj_collector_take_unique : Unique p.collecting.ghj_collector_take.Kinds.ps p.collecting.ghj_collector_take.Kinds.r p.collecting.ghj_collector_take.Reads.Asked p.collecting.ghj_collector_take.Reads.Learnt
+ghj_collector_take_unique κs a ok z z' w w' q q' = (both q.answers q'.answers, ap (λ x. (x, (tt, (tt, tt)))) (both q.leaves q'.leaves))
 
 pub ghj_channel_collector_from_unique : Unique p.channel_collecting.ghj_channel_collector_from.Kinds.ps p.channel_collecting.ghj_channel_collector_from.Kinds.r p.channel_collecting.ghj_channel_collector_from.Reads.Asked p.channel_collecting.ghj_channel_collector_from.Reads.Learnt
 ghj_channel_collector_from_unique κs a ok z z' w w' q q' = (both q q', refl)
