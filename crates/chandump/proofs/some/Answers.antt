@@ -1,0 +1,5 @@
+use Rattle.chandump.proofs.Laws.{answered}
+use Rattle.chandump.proofs.some.Goals as goal
+
+pub returns : goal.returns
+returns c = answered c.args.block.now c.args.out.now c.feed-fed.ensures c.written-ok.result c.typed.ensures c.requires
