@@ -3,7 +3,7 @@ ghost use Rattle.std.specs.Prelude.{◌≡◌};
 ghost use Rattle.base.specs.Field.{byte};
 ghost use Rattle.base.specs.Refusal.{row};
 
-#[derive(Drop)]
+#[derive(Clone, Copy)]
 pub enum Refusal {
     NotEnoughData,
     TooMuchData,

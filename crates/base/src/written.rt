@@ -5,7 +5,7 @@ ghost use Rattle.base.specs.Written.{Writes};
 
 use crate::refusal::Refusal;
 
-#[derive(Drop)]
+#[derive(Clone, Copy)]
 pub enum Written {
     Length(usize),
     Refused(Refusal),

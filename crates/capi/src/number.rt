@@ -22,34 +22,10 @@ const MISSING: u64 = 0x2000_0000_0000_0000;
 // The most that fits above a refusal's number: a place beyond it counts as this one.
 const CARRIED_LIMIT: usize = 0x7F_FFFF_FFFF_FFFF;
 
-// The same refusal: its number and what it carries each use one up.
-fn again(refusal: &Refusal) -> Refusal
-    ensures { result ≡ refusal.now }
-{
-    match refusal {
-        Refusal::NotEnoughData => Refusal::NotEnoughData,
-        Refusal::TooMuchData => Refusal::TooMuchData,
-        Refusal::InvalidZeroSession => Refusal::InvalidZeroSession,
-        Refusal::InvalidAuthType(byte) => Refusal::InvalidAuthType(*byte),
-        Refusal::InvalidPrivilegeLevel(byte) => Refusal::InvalidPrivilegeLevel(*byte),
-        Refusal::NoChannel => Refusal::NoChannel,
-        Refusal::BadIndex => Refusal::BadIndex,
-        Refusal::LongName => Refusal::LongName,
-        Refusal::NoForm => Refusal::NoForm,
-        Refusal::NotARequest => Refusal::NotARequest,
-        Refusal::NoRoom => Refusal::NoRoom,
-        Refusal::Disagrees => Refusal::Disagrees,
-        Refusal::Incomplete(index) => Refusal::Incomplete(*index),
-        Refusal::BadLine => Refusal::BadLine,
-        Refusal::WrongChannel => Refusal::WrongChannel,
-        Refusal::BadRecord(place) => Refusal::BadRecord(*place),
-    }
-}
-
 pub(crate) fn refused(refusal: Refusal) -> u64
     ensures { result ≡ code (spec.refusal refusal) }
 {
-    let number = REFUSED + (again(&refusal).number() as u64);
+    let number = REFUSED + (refusal.number() as u64);
     let carried = refusal.carried();
     if CARRIED_LIMIT < carried {
         return number + 256 * (CARRIED_LIMIT as u64);

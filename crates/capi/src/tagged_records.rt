@@ -21,16 +21,16 @@ use tagged::tagged_records::{
 fn write_record(suite: TaggedRecord, out: &mut [u8]) -> Written
     ensures { Writes (accepted (record_bytes suite)) result out.old out.new }
 {
-    let authentication = suite.authentication;
-    let integrity = suite.integrity;
-    let confidentiality = suite.confidentiality;
-    let end = suite.end;
     let e = entry(suite);
-    let head = [e[0], e[1], e[2], e[3], e[4], authentication, 0, 0];
+    let head = [e[0], e[1], e[2], e[3], e[4], suite.authentication, 0, 0];
     let mut behind = [0; 16];
-    join(&bytes8(confidentiality), &bytes8(end), &mut behind);
+    join(
+        &bytes8(suite.confidentiality),
+        &bytes8(suite.end),
+        &mut behind,
+    );
     let mut places = [0; 24];
-    join(&bytes8(integrity), &behind, &mut places);
+    join(&bytes8(suite.integrity), &behind, &mut places);
     join(&head, &places, out)
 }
 

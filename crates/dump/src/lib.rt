@@ -207,7 +207,8 @@ fn end(
     ensures { Answers (ending (collector_of bytes.old marks.old known.old)) result out.old out.new (collector_of bytes.old marks.old known.old) (collector_of bytes.new marks.new known.new) }
 {
     let answered = list(bytes, marks, known, out);
-    match answered.written {
+    let written = answered.written;
+    match written {
         Written::Length(_) => {
             *bytes = [0; Collector::CAPACITY];
             *marks = [0; Collector::PARTS];

@@ -21,7 +21,7 @@ pub enum Owner {
 
 // A record in a lent list. Its integrity bytes lie from `integrity` up to `confidentiality`, its confidentiality bytes from
 // there up to `end`, where the next record begins.
-#[derive(Drop)]
+#[derive(Clone, Copy)]
 pub struct TaggedRecord {
     pub owner: Owner,
     pub number: u8,
