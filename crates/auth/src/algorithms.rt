@@ -3,7 +3,7 @@ ghost use Rattle.std.specs.Prelude.{◌≡◌};
 ghost use Rattle.auth.specs.Algorithms.{authentication_of, authentication_value, confidentiality_of, confidentiality_value, integrity_of, integrity_value, said_authentication, said_confidentiality, said_integrity};
 ghost use Rattle.base.specs.Outcome.{accepted};
 
-#[derive(Drop)]
+#[derive(Clone, Copy)]
 pub enum AuthenticationAlgorithm {
     RakpNone,
     RakpHmacSha1,
@@ -42,7 +42,7 @@ impl AuthenticationAlgorithm {
     }
 }
 
-#[derive(Drop)]
+#[derive(Clone, Copy)]
 pub enum ConfidentialityAlgorithm {
     None,
     AesCbc128,
@@ -81,7 +81,7 @@ impl ConfidentialityAlgorithm {
     }
 }
 
-#[derive(Drop)]
+#[derive(Clone, Copy)]
 pub enum IntegrityAlgorithm {
     None,
     HmacSha1_96,

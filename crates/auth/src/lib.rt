@@ -13,7 +13,7 @@ use base::written::{Written, place};
 pub mod algorithms;
 pub mod get_channel_authentication_capabilities;
 
-#[derive(Drop)]
+#[derive(Clone, Copy)]
 pub enum AuthType {
     None,
     MD2,
@@ -125,7 +125,7 @@ impl AuthType {
     }
 }
 
-#[derive(Drop)]
+#[derive(Clone, Copy)]
 pub enum PrivilegeLevel {
     Callback,
     User,

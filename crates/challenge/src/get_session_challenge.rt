@@ -12,7 +12,7 @@ use base::refusal::Refusal;
 use base::verdict::Verdict;
 use base::written::{Written, join, place};
 
-#[derive(Drop)]
+#[derive(Clone, Copy)]
 pub struct GetSessionChallenge {
     pub auth_type: AuthType,
     pub username: [u8; 16],

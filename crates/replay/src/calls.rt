@@ -42,20 +42,9 @@ pub(crate) const BAD: u64 = 0x8000_0000_0000_000E;
 // GHJ_NONE.
 pub(crate) const NONE: u64 = 0x4000_0000_0000_0000;
 
-// As `Refusal::carried`, which uses the refusal up.
-fn carried(refusal: &Refusal) -> usize {
-    match refusal {
-        Refusal::InvalidAuthType(byte) => *byte as usize,
-        Refusal::InvalidPrivilegeLevel(byte) => *byte as usize,
-        Refusal::Incomplete(index) => *index as usize,
-        Refusal::BadRecord(place) => *place,
-        _ => 0,
-    }
-}
-
 // As C gets it. No refusal that is asked for here carries more than a byte.
 pub(crate) fn refused(refusal: Refusal) -> u64 {
-    let carried = carried(&refusal);
+    let carried = refusal.carried();
     if 255 < carried {
         return BAD;
     }

@@ -71,15 +71,9 @@ pub(crate) fn suites_read(request: &[u8]) -> u64 {
     }
 }
 
-// The type uses the command up: the name is asked of another with the same name.
 fn challenge_shown(command: GetSessionChallenge, out: &mut [u8]) -> u64 {
-    let username = command.username;
-    let named = GetSessionChallenge {
-        auth_type: AuthType::None,
-        username,
-    };
     let kind = command.auth_type();
-    let Written::Length(n) = named.username(out) else {
+    let Written::Length(n) = command.username(out) else {
         return refused(Refusal::NoRoom);
     };
     two(kind.value(), (n % 256) as u8)

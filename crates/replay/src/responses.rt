@@ -123,12 +123,10 @@ pub(crate) fn suite(n: u8) -> u64 {
     let SuiteAnswer::Suite(suite) = CipherSuite::from_id(n) else {
         return NONE;
     };
-    let number = suite.0;
-    let AuthenticationAnswer::Algorithm(authentication) = CipherSuite(number).authentication()
-    else {
+    let AuthenticationAnswer::Algorithm(authentication) = suite.authentication() else {
         return NONE;
     };
-    let IntegrityAnswer::Algorithm(integrity) = CipherSuite(number).integrity() else {
+    let IntegrityAnswer::Algorithm(integrity) = suite.integrity() else {
         return NONE;
     };
     number3(suite.id(), authentication.value(), integrity.value()) as u64

@@ -293,7 +293,7 @@ const SUITES: [Row; 20] = [
 const COUNT: u8 = SUITES.len() as u8;
 
 // A suite, by its number.
-#[derive(Drop)]
+#[derive(Clone, Copy)]
 pub struct CipherSuite(pub u8);
 
 #[derive(Drop)]
