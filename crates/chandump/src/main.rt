@@ -59,8 +59,12 @@ fn again(rt: HostRuntime, error: Error) -> bool {
     kind == ErrorKind::Interrupted
 }
 
-// A fault, in a line on standard error. Where that cannot be written either, there is nobody to tell.
+// A fault, in a line on standard error; where that cannot be written either, there is nobody to tell. A pipe that nobody reads
+// any more is none.
 fn fail(rt: HostRuntime, what: &str, error: Error) {
+    if error.kind() == ErrorKind::BrokenPipe {
+        return;
+    }
     let _ = eprintln!(rt; "chandump: {what}: {error}");
 }
 
