@@ -33,11 +33,20 @@ fn find() -> Result<PathBuf, String> {
 }
 
 /// By the repository's own script, which builds one only where the sources changed. It is asked again when they do, not when
-/// the archive does: that is newer than the start of its own building.
+/// the archive does, nor what a check leaves beside the sources: these are newer than the start of their own building.
 fn build(root: &Path) -> Result<PathBuf, String> {
     let script = root.join("tests/native");
-    for source in ["crates", "crates.txt", "tests/native"] {
+    for source in ["crates.txt", "tests/native"] {
         println!("cargo::rerun-if-changed={}", root.join(source).display());
+    }
+    let crates = fs::read_dir(root.join("crates")).map_err(|fault| format!("crates: {fault}"))?;
+    for folder in crates.flatten() {
+        for part in ["src", "specs", "proofs"] {
+            let sources = folder.path().join(part);
+            if sources.is_dir() {
+                println!("cargo::rerun-if-changed={}", sources.display());
+            }
+        }
     }
     let done = Command::new(&script)
         .arg("archive")
@@ -81,7 +90,7 @@ fn same_processor(archive: &Path) -> Result<(), String> {
     if archives != targets {
         return Err(format!(
             "{shown} is for the processor {archives}, this build is for {targets}: \
-             `tests/native archive` builds one on a machine of that kind, and {VARIABLE} names it"
+             `tests/native archive` builds one for x86-64 alone"
         ));
     }
     Ok(())

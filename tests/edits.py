@@ -1,7 +1,7 @@
 """What tests/wrong and tests/promises both know of sources and of wrong versions.
 
 A wrong version is an edit, crates/NAME/must-fail/LABEL.edit or crates/NAME/wrong/LABEL.edit: `rt ci` tries the first kind, tests/wrong
-both. Its first line says what it breaks; `# refused at: PLACE, FACT` names the function and the need of its proof, or the file
+both. Its first line says what it breaks; `# refused at: PLACE, FACT` names the function and the goal of its proof, or the file
 and the law, that refuse it; then come replacements by rt's rules, `file:`, `old:` and `new:`.
 """
 import collections
@@ -114,7 +114,7 @@ def function_at(folder, file, line):
 
 
 def refusals(folder, log):
-    """All places that a log of the prover names, in its order: a function and a need of its proof, or a file and a law. What is refused
+    """All places that a log of the prover names, in its order: a function and a goal of its proof, or a file and a law. What is refused
     only because something before it was is left out, and what says that a proof file does not fit the code any more is no fact."""
     places = r"/(proofs|specs)/([^\s:]*)\.antt:\d+:\d+: error: `([^`]*)`|/src/(\w+)\.rt:(\d+):\d+: it is not proved that .* \(`([^`]*)`\)"
     for m in re.finditer(places, log):

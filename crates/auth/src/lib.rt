@@ -90,7 +90,7 @@ impl AuthType {
         }
     }
 
-    // Greater: `self` is the stronger. The Rust's chain of comparisons gives the same: `chain-is`.
+    // Greater: `self` is the stronger. The Rust's chain of comparisons gives the same: `chain_is`.
     pub fn compare_strength(self, other: Self) -> Ordering
         ensures { result ≡ strength self other }
     {
@@ -105,7 +105,7 @@ impl AuthType {
         Ordering::Equal
     }
 
-    // The strongest of the types that are offered: `best-iff`.
+    // The strongest of the types that are offered: `best_iff`.
     pub fn best_of(key: bool, md5: bool, md2: bool, none: bool) -> AuthTypeAnswer
         ensures { said_auth_type result ≡ accepted (best_of key md5 md2 none) }
     {

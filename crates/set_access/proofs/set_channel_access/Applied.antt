@@ -102,7 +102,7 @@ twice k before = go (parts_bytes k)
     go (refused n v) = refl
     go (accepted p) = rw (once NonVolatile k before.non_volatile, once Volatile k before.volatile)
 
--- Refused by 9 alone, and whatever the settings are exactly where bytes 1 and 2 have no form (`parts-form`).
+-- Refused by 9 alone, and whatever the settings are exactly where bytes 1 and 2 have no form (`parts_form`).
 pub applied_only : (k : SetChannelAccess) (before : ChannelSettings) → Only 9 (applied k before)
 applied_only k before = only_steps 9 (parts_bytes k) _ (parts_only k) λ p. refl
 
