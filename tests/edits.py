@@ -107,9 +107,12 @@ def module_of(file):
 
 def function_at(folder, file, line):
     """The function that has a line of a source."""
-    text = open("%s/src/%s.rt" % (folder, file)).read()
-    end = len("\n".join(text.split("\n")[:line]))
-    names = [f.name for f in functions(text) if f.head < end]
+    lines = open("%s/src/%s.rt" % (folder, file)).read().split("\n")
+    # What is said of a whole function is said at its first attribute.
+    while lines[line - 1].lstrip().startswith("#["):
+        line += 1
+    end = len("\n".join(lines[:line]))
+    names = [f.name for f in functions("\n".join(lines)) if f.head < end]
     return module_of(file + ".rt") + names[-1] if names else ""
 
 

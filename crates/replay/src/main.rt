@@ -8,6 +8,7 @@ use crate::question::answer;
 use base::little::bytes8;
 use base::text::digit;
 use lines::{kept, newline_from};
+use std::io;
 use std::io::{Read, Write};
 
 mod arguments;
@@ -49,23 +50,24 @@ fn sign(bytes: &[u8], j: usize) -> u8 {
 }
 
 // As much of it as the text has room for.
-fn told(rt: HostRuntime, bytes: &[u8], text: &mut [u8]) {
+fn told(rt: HostRuntime, bytes: &[u8], text: &mut [u8]) -> io::Result<()> {
     for j in 0..text.len() {
         text[j] = sign(bytes, j);
     }
-    let _ = rt.stdout().write_all(text);
+    rt.stdout().write_all(text)
 }
 
 // The tests hold in every run; they are there so that nothing has to be proved of the numbers.
-fn shown(rt: HostRuntime, number: u64, lent: &[u8], room: usize) {
+fn shown(rt: HostRuntime, number: u64, lent: &[u8], room: usize) -> io::Result<()> {
     let mut pairs = [0u8; 24];
-    told(rt, &bytes8(number as usize), &mut pairs);
+    told(rt, &bytes8(number as usize), &mut pairs)?;
     let mut text = [0u8; TEXT];
     if room <= lent.len() {
         if room <= LENT {
-            told(rt, &lent[0..room], &mut text[0..3 * room + 1]);
+            told(rt, &lent[0..room], &mut text[0..3 * room + 1])?;
         }
     }
+    Ok(())
 }
 
 // How much of a line is answered.
@@ -78,11 +80,11 @@ fn most(line: &[u8]) -> usize
     line.len()
 }
 
-fn answered(rt: HostRuntime, line: &[u8]) {
+fn answered(rt: HostRuntime, line: &[u8]) -> io::Result<()> {
     let mut lent = [FILL; LENT];
     let end = most(line);
     let said = answer(&line[0..end], &mut lent);
-    shown(rt, said.number, &lent, said.room);
+    shown(rt, said.number, &lent, said.room)
 }
 
 // Where the next line ends.
@@ -94,15 +96,15 @@ fn end_of(block: &[u8], at: usize) -> usize
 }
 
 // The lines of a block that are ended there are answered where they lie. Where its rest begins.
-fn fed(rt: HostRuntime, block: &[u8]) -> usize {
+fn fed(rt: HostRuntime, block: &[u8]) -> io::Result<usize> {
     let mut at: usize = 0;
     let mut end = end_of(block, 0);
     while end < block.len() {
-        answered(rt, &block[at..end]);
+        answered(rt, &block[at..end])?;
         at = end + 1;
         end = end_of(block, at);
     }
-    at
+    Ok(at)
 }
 
 // As much as there is room for, or as the input has. A read that fails ends it.
@@ -127,16 +129,16 @@ fn read(rt: HostRuntime, block: &mut [u8], used: usize) -> usize {
 }
 
 // Lines are answered as far as was read, and what is left is kept at the start of the block: how much that is.
-fn taken(rt: HostRuntime, block: &mut [u8], used: usize, n: usize) -> usize {
+fn taken(rt: HostRuntime, block: &mut [u8], used: usize, n: usize) -> io::Result<usize> {
     if block.len() < used {
-        return 0;
+        return Ok(0);
     }
     if block.len() - used < n {
-        return 0;
+        return Ok(0);
     }
     let end = used + n;
-    let at = fed(rt, &block[0..end]);
-    kept(block, at, end, LINE)
+    let at = fed(rt, &block[0..end])?;
+    Ok(kept(block, at, end, LINE))
 }
 
 // The budget after a block of `n` bytes: less by one, or none where the input has ended.
@@ -152,29 +154,30 @@ fn left(budget: u64, n: usize) -> u64
 
 // A proved loop has to end, and nothing says that the input does: the loop counts its blocks down from a number that
 // no run uses up.
-fn run(rt: HostRuntime, block: &mut [u8]) -> usize {
+fn run(rt: HostRuntime, block: &mut [u8]) -> io::Result<usize> {
     let mut used: usize = 0;
     let mut budget: u64 = 0x0100_0000_0000;
     while budget > 0 {
         let n = read(rt, block, used);
-        used = taken(rt, block, used, n);
+        used = taken(rt, block, used, n)?;
         budget = left(budget, n);
     }
-    used
+    Ok(used)
 }
 
 // A last line that no newline ends.
-fn last(rt: HostRuntime, block: &[u8], used: usize) {
+fn last(rt: HostRuntime, block: &[u8], used: usize) -> io::Result<()> {
     if used == 0 {
-        return;
+        return Ok(());
     }
     if used <= block.len() {
-        answered(rt, &block[0..used]);
+        return answered(rt, &block[0..used]);
     }
+    Ok(())
 }
 
-fn main(rt: HostRuntime) {
+fn main(rt: HostRuntime) -> io::Result<()> {
     let mut block = [0u8; BLOCK];
-    let used = run(rt, &mut block);
-    last(rt, &block, used);
+    let used = run(rt, &mut block)?;
+    last(rt, &block, used)
 }
