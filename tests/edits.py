@@ -84,19 +84,30 @@ def closing(text, i):
             return i
 
 
+def named(of, trait, arguments):
+    """How the check names an impl: after its type, or `OfTrait`, with the trait's arguments behind it."""
+    first = lambda word: word[:1].upper() + word[1:]
+    return first(of) + first(trait) + "".join(first(a) for a in re.findall(r"\w+", arguments or "")) if trait else of
+
+
 def functions(text):
-    """The functions of a source, in its order."""
-    kinds = [(m.group(1), m.end() - 1, closing(text, m.end() - 1)) for m in re.finditer(r"^impl(?:<[^>]*>)? (\w+)[^{\n]*\{", text, re.M)]
+    """The functions of a source, in its order. Those of a trait's impl are as public as the trait, and what the impl gives for the
+    trait's promise is theirs."""
+    head = r"^impl(?:<[^>]*>)? (?:([\w:]+?)(?:<([^>]*)>)? for )?(\w+)[^{\n]*\{"
+    kinds = [(named(m.group(3), (m.group(1) or "").split("::")[-1], m.group(2)), m.end() - 1, closing(text, m.end() - 1), m.group(1)) for m in re.finditer(head, text, re.M)]
     for m in re.finditer(r"^ *(pub(?:\(crate\))? )?(?:extern \"C\" )?fn (\w+)", text, re.M):
-        kind = next((k + "." for k, a, b in kinds if a < m.start() < b), "")
+        kind, a, b, trait = next((k for k in kinds if k[1] < m.start() < k[2]), ("", 0, 0, None))
         i, clauses = m.end(), []
+        for given in re.finditer(r"^ *ghost %s_gives = \{" % m.group(2), text[a:b], re.M):
+            clauses.append(("ensures", re.sub(r"\s+", " ", text[a + given.end():closing(text, a + given.end() - 1) - 1]).strip()))
         while True:
             k = re.compile(r"(requires|ensures)\s*\w*\s*\{|\{").search(text, i)
             if not k.group(1):
                 break
             i = closing(text, k.end() - 1)
             clauses.append((k.group(1), re.sub(r"\s+", " ", text[k.end():i - 1]).strip()))
-        yield Function(m.group(1) == "pub ", kind + m.group(2), clauses, m.start(), k.end() - 1, closing(text, k.end() - 1))
+        name = kind + "." + m.group(2) if kind else m.group(2)
+        yield Function(m.group(1) == "pub " or bool(trait), name, clauses, m.start(), k.end() - 1, closing(text, k.end() - 1))
 
 
 def module_of(file):

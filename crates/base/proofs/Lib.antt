@@ -3,4 +3,4 @@ pub mod Outcome
 pub mod Rows
 pub mod Said
 pub mod Unique
-pub mod Walked
+pub mod Verdict

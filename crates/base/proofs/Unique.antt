@@ -8,10 +8,11 @@ use borrow.Fn.Kinds.{ParamKind, ResultKind, In, Out, Dens, res_t, ended_of}
 use denote.Ref.{Bor}
 use denote.Triple.Clauses.{Lasts, at_exit}
 use Rattle.base.specs.Outcome.{Outcome}
+use Rattle.std.specs.Prelude.{Result}
 use Rattle.base.specs.Written.{Writes}
-use Rattle.base.specs.declared.written.Written.{Written}
+use Rattle.base.specs.declared.refusal.Refusal.{Refusal}
 use Rattle.base.proofs as p
-use Rattle.base.proofs.Said.{number_one, channel_one, unit_one, field_one, written_one}
+use Rattle.base.proofs.Said.{said_one}
 
 -- over the generated `Reads` of a function: `Asked` is what its `requires` asks of a caller, `Learnt` what its `ensures` tell one
 abbrev pub Unique : {n : ℕ} (ps : List (ParamKind n)) (r : ResultKind n) → In n ps → Out n ps r → Type 0
@@ -43,9 +44,9 @@ last zero buffer = (buffer, tt)
 last (suc k) buffer = (tt, last k buffer)
 
 -- a writer, whose buffer stands behind k parameters
-pub writer : (k : ℕ) {message : Outcome (List ℕ)} {r r' : Written} {before after after' : List ℕ} → Writes message r before after → Writes message r' before after'
+pub writer : (k : ℕ) {message : Outcome (List ℕ)} {r r' : Result ℕ Refusal} {before after after' : List ℕ} → Writes message r before after → Writes message r' before after'
     → (r ≡ r') × (last k after ≡ last k after')
-writer k {r} {r'} q q' = (written_one r r' (both q.answers q'.answers), ap (last k) (both q.leaves q'.leaves))
+writer k {r} {r'} q q' = (said_one r r' (both q.answers q'.answers), ap (last k) (both q.leaves q'.leaves))
 
 pub bits_unique : Unique p.field.bits.Kinds.ps p.field.bits.Kinds.r p.field.bits.Reads.Asked p.field.bits.Reads.Learnt
 bits_unique κs a ok z z' w w' q q' = (both q q', refl)
@@ -54,25 +55,13 @@ pub flag_unique : Unique p.field.flag.Kinds.ps p.field.flag.Kinds.r p.field.flag
 flag_unique κs a ok z z' w w' q q' = (both q q', refl)
 
 pub within_unique : Unique p.field.within.Kinds.ps p.field.within.Kinds.r p.field.within.Reads.Asked p.field.within.Reads.Learnt
-within_unique κs a ok z z' w w' q q' = (field_one z z' (both q q'), refl)
+within_unique κs a ok z z' w w' q q' = (said_one z z' (both q q'), refl)
 
 pub flags_unique : Unique p.field.flags.Kinds.ps p.field.flags.Kinds.r p.field.flags.Reads.Asked p.field.flags.Reads.Learnt
 flags_unique κs a ok z z' w w' q q' = (both q q', refl)
 
-pub number4_unique : Unique p.little.number4.Kinds.ps p.little.number4.Kinds.r p.little.number4.Reads.Asked p.little.number4.Reads.Learnt
-number4_unique κs a ok z z' w w' q q' = (both q q', refl)
-
-pub bytes3_unique : Unique p.little.bytes3.Kinds.ps p.little.bytes3.Kinds.r p.little.bytes3.Reads.Asked p.little.bytes3.Reads.Learnt
-bytes3_unique κs a ok z z' w w' q q' = (both q q', refl)
-
-pub bytes4_unique : Unique p.little.bytes4.Kinds.ps p.little.bytes4.Kinds.r p.little.bytes4.Reads.Asked p.little.bytes4.Reads.Learnt
-bytes4_unique κs a ok z z' w w' q q' = (both q q', refl)
-
-pub bytes8_unique : Unique p.little.bytes8.Kinds.ps p.little.bytes8.Kinds.r p.little.bytes8.Reads.Asked p.little.bytes8.Reads.Learnt
-bytes8_unique κs a ok z z' w w' q q' = (both q q', refl)
-
-pub number3_unique : Unique p.little.number3.Kinds.ps p.little.number3.Kinds.r p.little.number3.Reads.Asked p.little.number3.Reads.Learnt
-number3_unique κs a ok z z' w w' q q' = (both q q', refl)
+pub number_unique : Unique p.little.number.Kinds.ps p.little.number.Kinds.r p.little.number.Reads.Asked p.little.number.Reads.Learnt
+number_unique κs a ok z z' w w' q q' = (both q q', refl)
 
 pub refusal_number_unique : Unique p.refusal.Refusal.number.Kinds.ps p.refusal.Refusal.number.Kinds.r p.refusal.Refusal.number.Reads.Asked p.refusal.Refusal.number.Reads.Learnt
 refusal_number_unique κs a ok z z' w w' q q' = (both q q', refl)
@@ -93,19 +82,19 @@ pub place_unique : Unique p.written.place.Kinds.ps p.written.place.Kinds.r p.wri
 place_unique κs a ok z z' w w' q q' = writer 1 q q'
 
 pub channel_number_new_unique : Unique p.connection.ChannelNumber.new.Kinds.ps p.connection.ChannelNumber.new.Kinds.r p.connection.ChannelNumber.new.Reads.Asked p.connection.ChannelNumber.new.Reads.Learnt
-channel_number_new_unique κs a ok z z' w w' q q' = (number_one z z' (both q q'), refl)
+channel_number_new_unique κs a ok z z' w w' q q' = (said_one z z' (both q q'), refl)
 
 pub channel_number_value_unique : Unique p.connection.ChannelNumber.value.Kinds.ps p.connection.ChannelNumber.value.Kinds.r p.connection.ChannelNumber.value.Reads.Asked p.connection.ChannelNumber.value.Reads.Learnt
 channel_number_value_unique κs a ok z z' w w' q q' = (both q q', refl)
 
 pub channel_new_unique : Unique p.connection.Channel.new.Kinds.ps p.connection.Channel.new.Kinds.r p.connection.Channel.new.Reads.Asked p.connection.Channel.new.Reads.Learnt
-channel_new_unique κs a ok z z' w w' q q' = (channel_one z z' (both q q'), refl)
+channel_new_unique κs a ok z z' w w' q q' = (said_one z z' (both q q'), refl)
 
 pub channel_value_unique : Unique p.connection.Channel.value.Kinds.ps p.connection.Channel.value.Kinds.r p.connection.Channel.value.Reads.Asked p.connection.Channel.value.Reads.Learnt
 channel_value_unique κs a ok z z' w w' q q' = (both q q', refl)
 
 pub channel_field_unique : Unique p.connection.Channel.field.Kinds.ps p.connection.Channel.field.Kinds.r p.connection.Channel.field.Reads.Asked p.connection.Channel.field.Reads.Learnt
-channel_field_unique κs a ok z z' w w' q q' = (field_one z z' (both q q'), refl)
+channel_field_unique κs a ok z z' w w' q q' = (said_one z z' (both q q'), refl)
 
 pub channel_text_unique : Unique p.connection.Channel.text.Kinds.ps p.connection.Channel.text.Kinds.r p.connection.Channel.text.Reads.Asked p.connection.Channel.text.Reads.Learnt
 channel_text_unique κs a ok z z' w w' q q' = writer 1 q q'
@@ -113,8 +102,8 @@ channel_text_unique κs a ok z z' w w' q q' = writer 1 q q'
 pub logical_unit_from_low_bits_unique : Unique p.connection.LogicalUnit.from_low_bits.Kinds.ps p.connection.LogicalUnit.from_low_bits.Kinds.r p.connection.LogicalUnit.from_low_bits.Reads.Asked p.connection.LogicalUnit.from_low_bits.Reads.Learnt
 logical_unit_from_low_bits_unique κs a ok z z' w w' q q' = (cc, refl)
 
-pub logical_unit_try_from_unique : Unique p.connection.LogicalUnit.try_from.Kinds.ps p.connection.LogicalUnit.try_from.Kinds.r p.connection.LogicalUnit.try_from.Reads.Asked p.connection.LogicalUnit.try_from.Reads.Learnt
-logical_unit_try_from_unique κs a ok z z' w w' q q' = (unit_one z z' (both q q'), refl)
+pub logical_unit_try_from_unique : Unique p.connection.LogicalUnitTryFromU8.try_from.Kinds.ps p.connection.LogicalUnitTryFromU8.try_from.Kinds.r p.connection.LogicalUnitTryFromU8.try_from.Reads.Asked p.connection.LogicalUnitTryFromU8.try_from.Reads.Learnt
+logical_unit_try_from_unique κs a ok z z' w w' q q' = (both q q', refl)
 
 pub logical_unit_value_unique : Unique p.connection.LogicalUnit.value.Kinds.ps p.connection.LogicalUnit.value.Kinds.r p.connection.LogicalUnit.value.Reads.Asked p.connection.LogicalUnit.value.Reads.Learnt
 logical_unit_value_unique κs a ok z z' w w' q q' = (both q q', refl)

@@ -1,32 +1,15 @@
 -- Channels. Document 01: "0 Primary, 1 to 0xB numbered, 0xE Current, 0xF System"; IPMI 2.0, Table 6-1.
-use Rattle.std.specs.Prelude.{ℕ, List, [], ◌∷◌, ◌++◌, if◌then◌else◌}
-use Rattle.std.proofs.Math.Option.{Option, none, some}
+use Rattle.std.specs.Prelude.{ℕ, List, [], ◌∷◌, ◌++◌, if◌then◌else◌, Option, Some}
 use Rattle.base.specs.Choice.{if◌from◌to◌then◌else◌, ◌=?◌}
 use Rattle.base.specs.Field.{within}
 use Rattle.base.specs.Named.{named}
 use Rattle.base.specs.Outcome.{Outcome, accepted, refused, ◌>>=◌}
 use Rattle.base.specs.Text.{ascii, hex1}
 use Rattle.base.specs.declared.connection.ChannelNumber.{ChannelNumber}
-use Rattle.base.specs.declared.connection.NumberAnswer.{NumberAnswer}
-use Rattle.base.specs.declared.connection.NumberAnswer.TheVariants as Number
 use Rattle.base.specs.declared.connection.Channel.{Channel}
 use Rattle.base.specs.declared.connection.Channel.TheVariants.{Primary, Numbered, Current, System}
-use Rattle.base.specs.declared.connection.ChannelAnswer.{ChannelAnswer}
-use Rattle.base.specs.declared.connection.ChannelAnswer.TheVariants as Answer
 use Rattle.base.specs.declared.connection.LogicalUnit.{LogicalUnit}
 use Rattle.base.specs.declared.connection.LogicalUnit.TheVariants.{Zero, One, Two, Three}
-use Rattle.base.specs.declared.connection.UnitAnswer.{UnitAnswer}
-use Rattle.base.specs.declared.connection.UnitAnswer.TheVariants.{Unit, Nothing}
-
--- each case's outcome: 6 NoChannel
-abbrev pub said_number : NumberAnswer → Outcome ChannelNumber
-said_number (Number.Number number) = accepted number
-said_number Number.NoChannel = refused 6 []
-
--- each case's outcome: 6 NoChannel
-abbrev pub said_channel : ChannelAnswer → Outcome Channel
-said_channel (Answer.Channel channel) = accepted channel
-said_channel Answer.NoChannel = refused 6 []
 
 -- the Rust takes 0xB, and its comment does not
 abbrev pub channel_number_of : ℕ → Outcome ChannelNumber
@@ -62,14 +45,9 @@ channel_text (Numbered number) = ascii "Channel 0x" ++ hex1 number.0
 channel_text Current = ascii "Current channel"
 channel_text System = ascii "System channel"
 
--- each case's outcome; "answers none, which counts as accepted"
-abbrev pub said_unit : UnitAnswer → Outcome (Option LogicalUnit)
-said_unit (Unit unit) = accepted (some unit)
-said_unit Nothing = accepted none
-
 -- from 0 up: a unit's number has two bits
 abbrev pub units : List (Option LogicalUnit)
-units = some Zero ∷ some One ∷ some Two ∷ some Three ∷ []
+units = Some Zero ∷ Some One ∷ Some Two ∷ Some Three ∷ []
 
 -- the unit of a number: connection/mod.rs, LogicalUnit
 abbrev pub unit_of : ℕ → Option LogicalUnit

@@ -4,13 +4,6 @@ use Rattle.std.specs.Int.{w8}
 use mir.Val.{Fits, bool_byte}
 use Rattle.base.specs.Choice.{◌=?◌, if◌from◌to◌then◌else◌}
 use Rattle.base.specs.Outcome.{Outcome, accepted, refused}
-use Rattle.base.specs.declared.field.FieldAnswer.{FieldAnswer}
-use Rattle.base.specs.declared.field.FieldAnswer.TheVariants.{Number, NoForm}
-
--- each case's outcome: 9 NoForm
-abbrev pub said_field : FieldAnswer → Outcome ℕ
-said_field (Number n) = accepted n
-said_field NoForm = refused 9 []
 
 -- byte k of a message
 abbrev pub byte : ℕ → List ℕ → ℕ

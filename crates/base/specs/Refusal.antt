@@ -1,6 +1,6 @@
 -- Document 01, "Refusal numbers"; document 02, C-12: "15 WrongChannel"; C-14: "16 BadRecord with the place".
-use Rattle.std.specs.Prelude.{ℕ, List, [], ◌∷◌}
-use Rattle.base.specs.Outcome.{Outcome, refused}
+use Rattle.std.specs.Prelude.{ℕ, List, [], ◌∷◌, Result, Ok, Err}
+use Rattle.base.specs.Outcome.{Outcome, accepted, refused}
 use Rattle.base.specs.declared.refusal.Refusal.{Refusal}
 use Rattle.base.specs.declared.refusal.Refusal.TheVariants.{NotEnoughData, TooMuchData, InvalidZeroSession, InvalidAuthType, InvalidPrivilegeLevel, NoChannel, BadIndex, LongName, NoForm, NotARequest, NoRoom, Disagrees, Incomplete, BadLine, WrongChannel, BadRecord}
 
@@ -26,3 +26,8 @@ row (BadRecord place) = (16, place ∷ [])
 -- "A refusal returns its number and what its name says it carries"
 abbrev pub refusal : {A : Type 0} → Refusal → Outcome A
 refusal r = refused (row r).0 (row r).1
+
+-- what an answer comes to: the value, or the refusal's number with what it carries
+abbrev pub said : {A : Type 0} → Result A Refusal → Outcome A
+said (Ok a) = accepted a
+said (Err r) = refusal r

@@ -1,15 +1,9 @@
 -- What a writer answers, and what it leaves in the lent buffer.
-use Rattle.std.specs.Prelude.{ℕ, ◌-◌, ◌≡◌, List, [], ◌++◌, length, drop, replicate, if◌then◌else◌}
+use Rattle.std.specs.Prelude.{ℕ, ◌-◌, ◌≡◌, Result, List, [], ◌++◌, length, drop, replicate, if◌then◌else◌}
 use Rattle.base.specs.Choice.{◌<?◌}
 use Rattle.base.specs.Outcome.{Outcome, accepted, refused, ◌>>=◌}
-use Rattle.base.specs.Refusal.{refusal}
-use Rattle.base.specs.declared.written.Written.{Written}
-use Rattle.base.specs.declared.written.Written.TheVariants.{Length, Refused}
-
--- each case's outcome: "the request is written .. and its length returned"
-abbrev pub said_written : Written → Outcome ℕ
-said_written (Length n) = accepted n
-said_written (Refused r) = refusal r
+use Rattle.base.specs.Refusal.{said}
+use Rattle.base.specs.declared.refusal.Refusal.{Refusal}
 
 -- what is written of a message: all of it, or 11 where the buffer is shorter; a message that is refused stays so
 unfoldable pub written : Outcome (List ℕ) → List ℕ → Outcome (List ℕ)
@@ -17,7 +11,7 @@ written message buffer = do
   bytes ← message
   if length buffer <? length bytes then refused 11 [] else accepted bytes
 
--- the length of a message; a refusal stays so
+-- "the request is written .. and its length returned"; a refusal stays so
 unfoldable pub length_of : Outcome (List ℕ) → Outcome ℕ
 length_of message = do
   bytes ← message
@@ -33,6 +27,6 @@ abbrev pub padded : ℕ → List ℕ → List ℕ
 padded width list = list ++ replicate (width - length list) 0
 
 -- The promise of every writer of a message: its answer, and the buffer before and after.
-pub record Writes (message : Outcome (List ℕ)) (answer : Written) (before after : List ℕ) : Type 0 where
-  pub answers : said_written answer ≡ length_of (written message before)
+pub record Writes (message : Outcome (List ℕ)) (answer : Result ℕ Refusal) (before after : List ℕ) : Type 0 where
+  pub answers : said answer ≡ length_of (written message before)
   pub leaves : after ≡ over before (written message before)

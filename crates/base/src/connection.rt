@@ -1,14 +1,15 @@
 // Channels, addresses and units: the Rust's connection/mod.rs. `text` is its Display, `try_from` its TryFrom<u8>.
-ghost use Rattle.std.specs.Prelude.{◌≡◌};
-ghost use Rattle.base.specs.Connection.{channel_field, channel_number_of, channel_of, channel_text, said_channel, said_number, said_unit, unit_of, unit_value, value_of};
-ghost use Rattle.std.proofs.Math.Option.{some};
-ghost use Rattle.base.specs.Field.{bits, said_field};
+ghost use Rattle.std.specs.Prelude.{◌≡◌, Some, ok_or};
+ghost use Rattle.base.specs.Connection.{channel_field, channel_number_of, channel_of, channel_text, unit_of, unit_value, value_of};
+ghost use Rattle.base.specs.Field.{bits};
 ghost use Rattle.base.specs.Outcome.{accepted};
+ghost use Rattle.base.specs.Refusal.{said};
 ghost use Rattle.base.specs.Written.{Writes};
 
-use crate::field::{FieldAnswer, bits, within};
+use crate::field::{bits, within};
+use crate::refusal::Refusal;
 use crate::text::digit;
-use crate::written::{Written, place};
+use crate::written::place;
 
 // The network function of all commands here, App: in requests, and in responses.
 pub const APP: u8 = 0x06;
@@ -22,19 +23,13 @@ pub struct Address(pub u8);
 #[derive(Clone, Copy)]
 pub struct ChannelNumber(pub u8);
 
-#[derive(Drop)]
-pub enum NumberAnswer {
-    Number(ChannelNumber),
-    NoChannel,
-}
-
 impl ChannelNumber {
-    pub fn new(value: u8) -> NumberAnswer
-        ensures { said_number result ≡ channel_number_of value }
+    pub fn new(value: u8) -> Result<Self, Refusal>
+        ensures { said result ≡ channel_number_of value }
     {
         match value {
-            1..=0xB => NumberAnswer::Number(ChannelNumber(value)),
-            _ => NumberAnswer::NoChannel,
+            1..=0xB => Ok(ChannelNumber(value)),
+            _ => Err(Refusal::NoChannel),
         }
     }
 
@@ -45,7 +40,7 @@ impl ChannelNumber {
     }
 
     // Rust's {:01X}: one digit, or two where the number holds more.
-    fn text(self, out: &mut [u8]) -> Written
+    fn text(self, out: &mut [u8]) -> Result<usize, Refusal>
         ensures { Writes (accepted (channel_text (Channel.Numbered self))) result out.old out.new }
     {
         let value = self.0;
@@ -68,26 +63,15 @@ pub enum Channel {
     Current,
 }
 
-#[derive(Drop)]
-pub enum ChannelAnswer {
-    Channel(Channel),
-    NoChannel,
-}
-
 impl Channel {
-    pub fn new(value: u8) -> ChannelAnswer
-        ensures { said_channel result ≡ channel_of value }
+    pub fn new(value: u8) -> Result<Self, Refusal>
+        ensures { said result ≡ channel_of value }
     {
         match value {
-            0 => ChannelAnswer::Channel(Channel::Primary),
-            0xE => ChannelAnswer::Channel(Channel::Current),
-            0xF => ChannelAnswer::Channel(Channel::System),
-            _ => {
-                let NumberAnswer::Number(number) = ChannelNumber::new(value) else {
-                    return ChannelAnswer::NoChannel;
-                };
-                ChannelAnswer::Channel(Channel::Numbered(number))
-            }
+            0 => Ok(Channel::Primary),
+            0xE => Ok(Channel::Current),
+            0xF => Ok(Channel::System),
+            _ => Ok(Channel::Numbered(ChannelNumber::new(value)?)),
         }
     }
 
@@ -103,18 +87,18 @@ impl Channel {
     }
 
     // The channel's number in a message.
-    pub fn field(self) -> FieldAnswer
-        ensures { said_field result ≡ channel_field self }
+    pub fn field(self) -> Result<u8, Refusal>
+        ensures { said result ≡ channel_field self }
     {
         match self {
-            Channel::Primary => FieldAnswer::Number(0),
+            Channel::Primary => Ok(0),
             Channel::Numbered(number) => within(number.value(), 1, 0xB),
-            Channel::Current => FieldAnswer::Number(0xE),
-            Channel::System => FieldAnswer::Number(0xF),
+            Channel::Current => Ok(0xE),
+            Channel::System => Ok(0xF),
         }
     }
 
-    pub fn text(self, out: &mut [u8]) -> Written
+    pub fn text(self, out: &mut [u8]) -> Result<usize, Refusal>
         ensures { Writes (accepted (channel_text self)) result out.old out.new }
     {
         match self {
@@ -134,15 +118,9 @@ pub enum LogicalUnit {
     Three,
 }
 
-#[derive(Drop)]
-pub enum UnitAnswer {
-    Unit(LogicalUnit),
-    Nothing,
-}
-
 impl LogicalUnit {
     pub fn from_low_bits(value: u8) -> Self
-        ensures { some result ≡ unit_of (bits 0 2 value) }
+        ensures { Some result ≡ unit_of (bits 0 2 value) }
     {
         match bits(value, 0, 2) {
             0 => LogicalUnit::Zero,
@@ -150,16 +128,6 @@ impl LogicalUnit {
             2 => LogicalUnit::Two,
             _ => LogicalUnit::Three,
         }
-    }
-
-    // The whole number counts.
-    pub fn try_from(value: u8) -> UnitAnswer
-        ensures { said_unit result ≡ accepted (unit_of value) }
-    {
-        if 3 < value {
-            return UnitAnswer::Nothing;
-        }
-        UnitAnswer::Unit(Self::from_low_bits(value))
     }
 
     pub fn value(self) -> u8
@@ -171,5 +139,19 @@ impl LogicalUnit {
             LogicalUnit::Two => 2,
             LogicalUnit::Three => 3,
         }
+    }
+}
+
+impl TryFrom<u8> for LogicalUnit {
+    type Error = ();
+
+    ghost try_from_gives = { λ value result. result ≡ ok_or (unit_of value) tt };
+
+    // The whole number counts.
+    fn try_from(value: u8) -> Result<Self, ()> {
+        if 3 < value {
+            return Err(());
+        }
+        Ok(Self::from_low_bits(value))
     }
 }

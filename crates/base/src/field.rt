@@ -1,13 +1,9 @@
 // A field of a byte is a position and a width, as in the standard's tables.
 ghost use Rattle.std.specs.Prelude.{◌≡◌};
-ghost use Rattle.base.specs.Field.{Bytes, bits, flag, flags, said_field, within};
+ghost use Rattle.base.specs.Field.{Bytes, bits, flag, flags, within};
+ghost use Rattle.base.specs.Refusal.{said};
 
-// What a value is in its field; `NoForm` where no reading of the field gives that value.
-#[derive(Drop)]
-pub enum FieldAnswer {
-    Number(u8),
-    NoForm,
-}
+use crate::refusal::Refusal;
 
 // What is lent is a string of bytes: the laws of readers and writers ask for it. A slice's elements are known from a call on.
 fn lent(message: &[u8])
@@ -30,16 +26,16 @@ pub fn bits(byte: u8, at: u8, width: u8) -> u8
 }
 
 // `value`, where it lies in the range of its field.
-pub fn within(value: u8, first: u8, last: u8) -> FieldAnswer
-    ensures { said_field result ≡ within first last value }
+pub fn within(value: u8, first: u8, last: u8) -> Result<u8, Refusal>
+    ensures { said result ≡ within first last value }
 {
     if value < first {
-        return FieldAnswer::NoForm;
+        return Err(Refusal::NoForm);
     }
     if last < value {
-        return FieldAnswer::NoForm;
+        return Err(Refusal::NoForm);
     }
-    FieldAnswer::Number(value)
+    Ok(value)
 }
 
 // Whether bit `at` of `byte` is set.

@@ -6,5 +6,4 @@ pub mod field;
 pub mod little;
 pub mod refusal;
 pub mod text;
-pub mod verdict;
 pub mod written;

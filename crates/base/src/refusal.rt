@@ -3,7 +3,7 @@ ghost use Rattle.std.specs.Prelude.{◌≡◌};
 ghost use Rattle.base.specs.Field.{byte};
 ghost use Rattle.base.specs.Refusal.{row};
 
-#[derive(Clone, Copy)]
+#[derive(Clone, Copy, Debug, PartialEq, Eq)]
 pub enum Refusal {
     NotEnoughData,
     TooMuchData,
@@ -53,22 +53,11 @@ impl Refusal {
         ensures { result ≡ byte 0 (row self).1 }
     {
         match self {
-            Refusal::NotEnoughData => 0,
-            Refusal::TooMuchData => 0,
-            Refusal::InvalidZeroSession => 0,
             Refusal::InvalidAuthType(byte) => byte as usize,
             Refusal::InvalidPrivilegeLevel(byte) => byte as usize,
-            Refusal::NoChannel => 0,
-            Refusal::BadIndex => 0,
-            Refusal::LongName => 0,
-            Refusal::NoForm => 0,
-            Refusal::NotARequest => 0,
-            Refusal::NoRoom => 0,
-            Refusal::Disagrees => 0,
             Refusal::Incomplete(index) => index as usize,
-            Refusal::BadLine => 0,
-            Refusal::WrongChannel => 0,
             Refusal::BadRecord(place) => place,
+            _ => 0,
         }
     }
 }

@@ -4,7 +4,8 @@ ghost use Rattle.base.specs.Outcome.{accepted};
 ghost use Rattle.base.specs.Text.{coded, digit};
 ghost use Rattle.base.specs.Written.{Writes};
 
-use crate::written::{Written, join};
+use crate::refusal::Refusal;
+use crate::written::join;
 
 const DIGITS: [u8; 16] = *b"0123456789ABCDEF";
 
@@ -16,7 +17,7 @@ pub fn digit(n: u8) -> u8
 }
 
 // A value that has no name of its own.
-pub fn coded(name: &[u8], value: u8, out: &mut [u8]) -> Written
+pub fn coded(name: &[u8], value: u8, out: &mut [u8]) -> Result<usize, Refusal>
     ensures { Writes (accepted (coded name.now value)) result out.old out.new }
 {
     let mut code = *b" (0x00)";

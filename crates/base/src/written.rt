@@ -5,38 +5,29 @@ ghost use Rattle.base.specs.Written.{Writes};
 
 use crate::refusal::Refusal;
 
-#[derive(Clone, Copy)]
-pub enum Written {
-    Length(usize),
-    Refused(Refusal),
-}
-
-pub fn place(message: &[u8], out: &mut [u8]) -> Written
+pub fn place(message: &[u8], out: &mut [u8]) -> Result<usize, Refusal>
     ensures { Writes (accepted message.now) result out.old out.new }
 {
     if out.len() < message.len() {
-        return Written::Refused(Refusal::NoRoom);
+        return Err(Refusal::NoRoom);
     }
-    let mut i: usize = 0;
-    while i < message.len() {
-        out[i] = message[i];
-        i += 1;
-    }
-    Written::Length(message.len())
+    out[..message.len()].copy_from_slice(message);
+    Ok(message.len())
 }
 
 // Two parts of a message, one behind the other.
-pub fn join(first: &[u8], second: &[u8], out: &mut [u8]) -> Written
+pub fn join(first: &[u8], second: &[u8], out: &mut [u8]) -> Result<usize, Refusal>
     ensures { Writes (accepted (first.now ++ second.now)) result out.old out.new }
 {
     let at = first.len();
     if out.len() < at {
-        return Written::Refused(Refusal::NoRoom);
+        return Err(Refusal::NoRoom);
     }
     if out.len() - at < second.len() {
-        return Written::Refused(Refusal::NoRoom);
+        return Err(Refusal::NoRoom);
     }
-    place(first, out);
-    place(second, &mut out[at..]);
-    Written::Length(at + second.len())
+    out[..at].copy_from_slice(first);
+    let end = at + second.len();
+    out[at..end].copy_from_slice(second);
+    Ok(end)
 }

@@ -3,7 +3,7 @@ use mathlib.Core.Logic.{◌↔◌}
 use mathlib.Core.Path.{◌≡◌, refl, sym}
 use mathlib.Core.List.{List, []}
 use mathlib.Core.Bool.{Bool, true, false}
-use mathlib.Core.Option.{none, some}
+use Rattle.std.specs.Prelude.{Some, None}
 use Prim.Native.Nat.{ℕ, ◌≤◌, ◌<◌}
 use native.Mathlib.Omega.{arith}
 use borrow.Author.Tests.{eqb-true, ne_eqb, le-ltb}
@@ -77,7 +77,7 @@ no_channel_form c message = (
 
 -- Units.
 
-pub no_unit : (n : ℕ) → 3 < n → unit_of n ≡ none
+pub no_unit : (n : ℕ) → 3 < n → unit_of n ≡ None
 no_unit n h = nothing units n h
 
 -- `from_low_bits` and `try_from` agree where both name a unit
@@ -85,5 +85,5 @@ pub low_unit : (n : ℕ) → n ≤ 3 → unit_of (bits 0 2 n) ≡ unit_of n
 low_unit n h = let z : bits 0 2 n ≡ n = omega arith in rw z
 
 -- a number names exactly the unit whose value it is
-pub unit_iff : (n : ℕ) (u : LogicalUnit) → unit_of n ≡ some u ↔ unit_value u ≡ n
+pub unit_iff : (n : ℕ) (u : LogicalUnit) → unit_of n ≡ Some u ↔ unit_value u ≡ n
 unit_iff = name_iff unit_value units refl (elim [ Zero ↦ refl | One ↦ refl | Two ↦ refl | Three ↦ refl ])

@@ -1,11 +1,12 @@
 -- Laws of numbers of several bytes, at any width.
-use mathlib.Core.Path.{◌≡◌, refl}
-use mathlib.Core.List.{List, [], ◌∷◌, ◌++◌}
-use Prim.Native.Nat.{ℕ, zero, suc, ◌+◌, ◌*◌, ◌/◌, ◌%◌, ◌^◌, ◌<◌}
+use mathlib.Core.Path.{◌≡◌, refl, ◌∙◌}
+use mathlib.Core.List.{List, [], ◌∷◌, ◌++◌, append_assoc}
+use Prim.Native.Nat.{ℕ, zero, suc, ◌+◌, ◌-◌, ◌*◌, ◌/◌, ◌%◌, ◌^◌, ◌<◌}
 use native.Mathlib.Nat.{pow-suc, div-lt_iff_lt-mul}
 use native.Mathlib.Omega.{arith}
 use lib.Dec.{lit<}
-use lib.ListN.{length, get_or, take, drop, replicate}
+use lib.ListN.{length, get_or, take, drop, set, replicate}
+use Rattle.std.proofs.lemmas.List.{take_more_set}
 use mir.Syntax.{w8}
 use mir.Val.{Fits}
 use lib.Seq.{paste}
@@ -76,3 +77,10 @@ bytes_paste d at s n h k = bytes_both (take at d ++ take n s) (drop (at + n) d) 
 pub bytes_are : (width n : ℕ) (rest : List ℕ) → Bytes rest → Bytes (little_bytes width n ++ rest)
 bytes_are zero n rest h = h
 bytes_are (suc width) n rest h = (omega arith, bytes_are width (n / 256) rest h)
+
+-- a turn of the writing: the low byte of the rest behind those that stand
+pub written_byte : (width i rest : ℕ) (items all : List ℕ) → length items ≡ width → i < width → all ≡ take i items ++ little_bytes (width - i) rest
+    → all ≡ take (i + 1) (set items i (rest % 256)) ++ little_bytes (width - (i + 1)) (rest / 256)
+written_byte width i rest items all l h e =
+    let z : width - i ≡ suc (width - (i + 1)) = omega arith in
+    rw (take_more_set items i (rest % 256) (omega arith)) (e ∙ rw z (simp append_assoc))

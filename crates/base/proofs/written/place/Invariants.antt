@@ -1,9 +1,0 @@
-use Rattle.std.proofs.Common.{length, ◌-◌, ◌≡◌, ◌≤◌}
-use lib.Seq.{paste}
-use Rattle.base.proofs.written.place.Given as goal
-
-abbrev pub invariant-loop-i : goal.invariant-loop-i
-invariant-loop-i l = ((l.i ≤ length l.message) × (length l.message ≤ length l.initial.out)) × ((length l.out ≡ length l.initial.out) × (l.out ≡ paste l.initial.out 0 l.message l.i))
-
-abbrev pub decreases-loop-i : goal.decreases-loop-i
-decreases-loop-i l = length l.message - l.i
