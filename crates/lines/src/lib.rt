@@ -10,7 +10,7 @@ ghost use Rattle.lines.specs.Lines.{Keeps, between, decimal, digit_of, newline, 
 
 use base::refusal::Refusal;
 use base::text::digit;
-use base::written::{Written, place};
+use base::written::place;
 
 // Vector code has it as it has `|`, and the proofs read it.
 fn larger(a: u8, b: u8) -> u8
@@ -105,33 +105,33 @@ fn joined(high: u8, low: u8) -> u8
 
 // The bytes of a text that is hex pairs and nothing else, one space before each. It is read to its end before a byte
 // is written.
-pub fn read_pairs(text: &[u8], out: &mut [u8]) -> Written
+pub fn read_pairs(text: &[u8], out: &mut [u8]) -> Result<usize, Refusal>
     ensures { Writes (pairs_of text.now) result out.old out.new }
 {
     if !are_pairs(text) {
-        return Written::Refused(Refusal::BadLine);
+        return Err(Refusal::BadLine);
     }
     let n = text.len() / 3;
     if out.len() < n {
-        return Written::Refused(Refusal::NoRoom);
+        return Err(Refusal::NoRoom);
     }
     let mut i: usize = 0;
     while i < n {
         out[i] = joined(text[3 * i + 1], text[3 * i + 2]);
         i += 1;
     }
-    Written::Length(n)
+    Ok(n)
 }
 
 // A byte as two digits.
-pub fn hex(byte: u8, out: &mut [u8]) -> Written
+pub fn hex(byte: u8, out: &mut [u8]) -> Result<usize, Refusal>
     ensures { Writes (accepted (hex2 byte)) result out.old out.new }
 {
     place(&[digit(byte / 16), digit(byte)], out)
 }
 
 // Digits from the last to the first: twenty hold any number.
-fn long_decimal(n: u64, out: &mut [u8]) -> Written
+fn long_decimal(n: u64, out: &mut [u8]) -> Result<usize, Refusal>
     ensures { Writes (accepted (decimal n)) result out.old out.new }
 {
     let mut text = [0u8; 20];
@@ -147,7 +147,7 @@ fn long_decimal(n: u64, out: &mut [u8]) -> Written
 }
 
 // Most numbers have one digit or two, which are counted from '0' on.
-pub fn decimal(n: u64, out: &mut [u8]) -> Written
+pub fn decimal(n: u64, out: &mut [u8]) -> Result<usize, Refusal>
     ensures { Writes (accepted (decimal n)) result out.old out.new }
 {
     if n < 10 {
