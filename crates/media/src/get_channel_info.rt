@@ -1,13 +1,14 @@
-// The types of the Rust's get_channel_info.rs: IPMI 2.0, Tables 6-2, 6-3 and 22-29. `from` is its From<u8>, `text` its Display.
+// The types of the Rust's get_channel_info.rs: IPMI 2.0, Tables 6-2, 6-3 and 22-29. `text` is its Display.
 ghost use Rattle.std.specs.Prelude.{◌≡◌};
 ghost use Rattle.media.specs.Media.{medium_field, medium_of, medium_text, medium_value, protocol_field, protocol_of, protocol_text, protocol_value, session_field, session_of, session_text, session_value};
-ghost use Rattle.base.specs.Field.{said_field};
 ghost use Rattle.base.specs.Outcome.{accepted};
+ghost use Rattle.base.specs.Refusal.{said};
 ghost use Rattle.base.specs.Written.{Writes};
 
-use base::field::{FieldAnswer, within};
+use base::field::within;
+use base::refusal::Refusal;
 use base::text::coded;
-use base::written::{Written, place};
+use base::written::place;
 
 // IPMI 2.0, Table 6-3.
 #[derive(Clone, Copy)]
@@ -29,10 +30,10 @@ pub enum ChannelMediumType {
     ReservedValue(u8),
 }
 
-impl ChannelMediumType {
-    pub fn from(value: u8) -> Self
-        ensures { result ≡ medium_of value }
-    {
+impl From<u8> for ChannelMediumType {
+    ghost from_gives = { λ value medium. medium ≡ medium_of value };
+
+    fn from(value: u8) -> Self {
         match value {
             0 => ChannelMediumType::Reserved,
             1 => ChannelMediumType::Ipmb,
@@ -51,11 +52,13 @@ impl ChannelMediumType {
             _ => ChannelMediumType::ReservedValue(value),
         }
     }
+}
 
-    pub fn value(self) -> u8
-        ensures { result ≡ medium_value self }
-    {
-        match self {
+impl From<ChannelMediumType> for u8 {
+    ghost from_gives = { λ medium value. value ≡ medium_value medium };
+
+    fn from(medium: ChannelMediumType) -> u8 {
+        match medium {
             ChannelMediumType::Reserved => 0,
             ChannelMediumType::Ipmb => 1,
             ChannelMediumType::IcmbV1_0 => 2,
@@ -73,19 +76,21 @@ impl ChannelMediumType {
             ChannelMediumType::ReservedValue(value) => value,
         }
     }
+}
 
+impl ChannelMediumType {
     // Its number in a message.
-    pub fn field(self) -> FieldAnswer
-        ensures { said_field result ≡ medium_field self }
+    pub fn field(self) -> Result<u8, Refusal>
+        ensures { said result ≡ medium_field self }
     {
         match self {
             ChannelMediumType::Oem(value) => within(value, 0x60, 0x7F),
             ChannelMediumType::ReservedValue(value) => within(value, 0x0D, 0x5F),
-            _ => FieldAnswer::Number(self.value()),
+            _ => Ok(self.into()),
         }
     }
 
-    pub fn text(self, out: &mut [u8]) -> Written
+    pub fn text(self, out: &mut [u8]) -> Result<usize, Refusal>
         ensures { Writes (accepted (medium_text self)) result out.old out.new }
     {
         match self {
@@ -124,10 +129,10 @@ pub enum ChannelProtocolType {
     ReservedValue(u8),
 }
 
-impl ChannelProtocolType {
-    pub fn from(value: u8) -> Self
-        ensures { result ≡ protocol_of value }
-    {
+impl From<u8> for ChannelProtocolType {
+    ghost from_gives = { λ value protocol. protocol ≡ protocol_of value };
+
+    fn from(value: u8) -> Self {
         match value {
             0 => ChannelProtocolType::Reserved,
             1 => ChannelProtocolType::IpmbV1_0,
@@ -143,11 +148,13 @@ impl ChannelProtocolType {
             _ => ChannelProtocolType::ReservedValue(value),
         }
     }
+}
 
-    pub fn value(self) -> u8
-        ensures { result ≡ protocol_value self }
-    {
-        match self {
+impl From<ChannelProtocolType> for u8 {
+    ghost from_gives = { λ protocol value. value ≡ protocol_value protocol };
+
+    fn from(protocol: ChannelProtocolType) -> u8 {
+        match protocol {
             ChannelProtocolType::Reserved => 0,
             ChannelProtocolType::IpmbV1_0 => 1,
             ChannelProtocolType::IcmbV1_0 => 2,
@@ -161,22 +168,24 @@ impl ChannelProtocolType {
             ChannelProtocolType::ReservedValue(value) => value,
         }
     }
+}
 
+impl ChannelProtocolType {
     // Its number in a message.
-    pub fn field(self) -> FieldAnswer
-        ensures { said_field result ≡ protocol_field self }
+    pub fn field(self) -> Result<u8, Refusal>
+        ensures { said result ≡ protocol_field self }
     {
         match self {
             ChannelProtocolType::Oem(value) => within(value, 0x1C, 0x1F),
             ChannelProtocolType::ReservedValue(value) => match value {
-                3 => FieldAnswer::Number(3),
+                3 => Ok(3),
                 _ => within(value, 0x0A, 0x1B),
             },
-            _ => FieldAnswer::Number(self.value()),
+            _ => Ok(self.into()),
         }
     }
 
-    pub fn text(self, out: &mut [u8]) -> Written
+    pub fn text(self, out: &mut [u8]) -> Result<usize, Refusal>
         ensures { Writes (accepted (protocol_text self)) result out.old out.new }
     {
         match self {
@@ -205,10 +214,10 @@ pub enum ChannelSessionSupport {
     Reserved(u8),
 }
 
-impl ChannelSessionSupport {
-    pub fn from(value: u8) -> Self
-        ensures { result ≡ session_of value }
-    {
+impl From<u8> for ChannelSessionSupport {
+    ghost from_gives = { λ value session. session ≡ session_of value };
+
+    fn from(value: u8) -> Self {
         match value {
             0 => ChannelSessionSupport::Sessionless,
             1 => ChannelSessionSupport::SingleSession,
@@ -217,11 +226,13 @@ impl ChannelSessionSupport {
             _ => ChannelSessionSupport::Reserved(value),
         }
     }
+}
 
-    pub fn value(self) -> u8
-        ensures { result ≡ session_value self }
-    {
-        match self {
+impl From<ChannelSessionSupport> for u8 {
+    ghost from_gives = { λ session value. value ≡ session_value session };
+
+    fn from(session: ChannelSessionSupport) -> u8 {
+        match session {
             ChannelSessionSupport::Sessionless => 0,
             ChannelSessionSupport::SingleSession => 1,
             ChannelSessionSupport::MultiSession => 2,
@@ -229,18 +240,20 @@ impl ChannelSessionSupport {
             ChannelSessionSupport::Reserved(value) => value,
         }
     }
+}
 
+impl ChannelSessionSupport {
     // Its number in a message.
-    pub fn field(self) -> FieldAnswer
-        ensures { said_field result ≡ session_field self }
+    pub fn field(self) -> Result<u8, Refusal>
+        ensures { said result ≡ session_field self }
     {
         match self {
-            ChannelSessionSupport::Reserved(_) => FieldAnswer::NoForm,
-            _ => FieldAnswer::Number(self.value()),
+            ChannelSessionSupport::Reserved(_) => Err(Refusal::NoForm),
+            _ => Ok(self.into()),
         }
     }
 
-    pub fn text(self, out: &mut [u8]) -> Written
+    pub fn text(self, out: &mut [u8]) -> Result<usize, Refusal>
         ensures { Writes (accepted (session_text self)) result out.old out.new }
     {
         match self {
