@@ -1,7 +1,8 @@
 -- Laws of authentication types and privilege levels.
-use Rattle.std.specs.Prelude.{◌≡◌, ℕ, ◌<◌, ◌≤◌, Bool, true, false, ltb, ◌↔◌, [], ◌∷◌, get_or, if◌then◌else◌}
+use Rattle.std.specs.Prelude.{◌≡◌, ℕ, ◌<◌, ◌≤◌, Bool, true, false, ltb, ◌↔◌, [], ◌∷◌, get_or, if◌then◌else◌, Option, Some, None}
+use Rattle.std.specs.declared.cmp.Ordering.{Ordering}
+use Rattle.std.specs.declared.cmp.Ordering.TheVariants.{Less, Equal, Greater}
 use mathlib.Core.Path.{refl, sym, ◌∙◌, ap}
-use mathlib.Core.Option.{Option, none, some}
 use native.Mathlib.Omega.{arith}
 use borrow.Author.Tests.{ltb-true, ltb-false, lt-ltb, le-ltb}
 use lib.Dec.{lit<, lit≤}
@@ -10,41 +11,39 @@ use Rattle.base.specs.Field.{bits}
 use Rattle.base.specs.Named.{named}
 use Rattle.auth.specs.Auth.{auth_types, auth_type_of, auth_type_value, best_of, privileges, privilege_of, privilege_value, rank, strength}
 use Rattle.auth.specs.declared.AuthType.{AuthType}
-use Rattle.auth.specs.declared.AuthType.TheVariants.{None, MD2, MD5, Key}
-use Rattle.auth.specs.declared.Ordering.{Ordering}
-use Rattle.auth.specs.declared.Ordering.TheVariants.{Less, Equal, Greater}
+use Rattle.auth.specs.declared.AuthType.TheVariants as Kind
 use Rattle.auth.specs.declared.PrivilegeLevel.{PrivilegeLevel}
 use Rattle.auth.specs.declared.PrivilegeLevel.TheVariants.{Callback, User, Operator, Administrator, OemProperietary}
 use Rattle.base.proofs.Named.{name_iff, unnamed}
 
 infix 15 ◌weaker◌
 -- a number names exactly the type whose number it is
-pub auth_number_iff : (n : ℕ) (a : AuthType) → named auth_types n ≡ some a ↔ auth_type_value a ≡ n
-auth_number_iff = name_iff auth_type_value auth_types refl (elim [ None ↦ refl | MD2 ↦ refl | MD5 ↦ refl | Key ↦ refl ])
+pub auth_number_iff : (n : ℕ) (a : AuthType) → named auth_types n ≡ Some a ↔ auth_type_value a ≡ n
+auth_number_iff = name_iff auth_type_value auth_types refl (elim [ Kind.None ↦ refl | Kind.MD2 ↦ refl | Kind.MD5 ↦ refl | Kind.Key ↦ refl ])
 
 -- a byte names exactly the type whose number is its low nibble
-pub auth_type_iff : (n : ℕ) (a : AuthType) → auth_type_of n ≡ some a ↔ auth_type_value a ≡ bits 0 4 n
+pub auth_type_iff : (n : ℕ) (a : AuthType) → auth_type_of n ≡ Some a ↔ auth_type_value a ≡ bits 0 4 n
 auth_type_iff n a = auth_number_iff (bits 0 4 n) a
 
-pub no_auth_number : (n : ℕ) → (0 ≡ n → ⊥) → (1 ≡ n → ⊥) → (2 ≡ n → ⊥) → (4 ≡ n → ⊥) → named auth_types n ≡ none
-no_auth_number n no_none no-md2 no-md5 no_key = unnamed auth_type_value auth_types auth_number_iff n (elim [ None ↦ no_none | MD2 ↦ no-md2 | MD5 ↦ no-md5 | Key ↦ no_key ])
+pub no_auth_number : (n : ℕ) → (0 ≡ n → ⊥) → (1 ≡ n → ⊥) → (2 ≡ n → ⊥) → (4 ≡ n → ⊥) → named auth_types n ≡ None
+no_auth_number n no_none no-md2 no-md5 no_key = unnamed auth_type_value auth_types auth_number_iff n (elim [ Kind.None ↦ no_none | Kind.MD2 ↦ no-md2 | Kind.MD5 ↦ no-md5 | Kind.Key ↦ no_key ])
 
-pub nibble_iff : (n : ℕ) (l : PrivilegeLevel) → named privileges n ≡ some l ↔ privilege_value l ≡ n
+pub nibble_iff : (n : ℕ) (l : PrivilegeLevel) → named privileges n ≡ Some l ↔ privilege_value l ≡ n
 nibble_iff = name_iff privilege_value privileges refl (elim [ Callback ↦ refl | User ↦ refl | Operator ↦ refl | Administrator ↦ refl | OemProperietary ↦ refl ])
 
 -- a byte names exactly the level whose number is its low nibble
-pub privilege_iff : (n : ℕ) (l : PrivilegeLevel) → privilege_of n ≡ some l ↔ privilege_value l ≡ bits 0 4 n
+pub privilege_iff : (n : ℕ) (l : PrivilegeLevel) → privilege_of n ≡ Some l ↔ privilege_value l ≡ bits 0 4 n
 privilege_iff n l = nibble_iff (bits 0 4 n) l
 
-pub no_privilege : (n : ℕ) → (1 ≡ n → ⊥) → (2 ≡ n → ⊥) → (3 ≡ n → ⊥) → (4 ≡ n → ⊥) → (5 ≡ n → ⊥) → named privileges n ≡ none
+pub no_privilege : (n : ℕ) → (1 ≡ n → ⊥) → (2 ≡ n → ⊥) → (3 ≡ n → ⊥) → (4 ≡ n → ⊥) → (5 ≡ n → ⊥) → named privileges n ≡ None
 no_privilege n a b c d e = unnamed privilege_value privileges nibble_iff n (elim [ Callback ↦ a | User ↦ b | Operator ↦ c | Administrator ↦ d | OemProperietary ↦ e ])
 
 -- the number of each is a byte, which names it
 
-pub auth_again : (a : AuthType) → (auth_type_value a < 256) × (auth_type_of (auth_type_value a) ≡ some a)
-auth_again = elim [ None ↦ (lit< tt, refl) | MD2 ↦ (lit< tt, refl) | MD5 ↦ (lit< tt, refl) | Key ↦ (lit< tt, refl) ]
+pub auth_again : (a : AuthType) → (auth_type_value a < 256) × (auth_type_of (auth_type_value a) ≡ Some a)
+auth_again = elim [ Kind.None ↦ (lit< tt, refl) | Kind.MD2 ↦ (lit< tt, refl) | Kind.MD5 ↦ (lit< tt, refl) | Kind.Key ↦ (lit< tt, refl) ]
 
-pub privilege_again : (l : PrivilegeLevel) → (privilege_value l < 256) × (privilege_of (privilege_value l) ≡ some l)
+pub privilege_again : (l : PrivilegeLevel) → (privilege_value l < 256) × (privilege_of (privilege_value l) ≡ Some l)
 privilege_again = elim [ Callback ↦ (lit< tt, refl) | User ↦ (lit< tt, refl) | Operator ↦ (lit< tt, refl) | Administrator ↦ (lit< tt, refl) | OemProperietary ↦ (lit< tt, refl) ]
 
 -- The strength order.
@@ -53,18 +52,18 @@ privilege_again = elim [ Callback ↦ (lit< tt, refl) | User ↦ (lit< tt, refl)
 abbrev pub chain : AuthType → AuthType → Ordering
 chain a b =
     if auth_type_value a =? auth_type_value b then Equal else
-    if auth_type_value a =? auth_type_value None then Less else
-    if auth_type_value b =? auth_type_value None then Greater else
-    if auth_type_value a =? auth_type_value Key then Less else
-    if auth_type_value b =? auth_type_value Key then Greater else
-    if auth_type_value a =? auth_type_value MD2 then Less else Greater
+    if auth_type_value a =? auth_type_value Kind.None then Less else
+    if auth_type_value b =? auth_type_value Kind.None then Greater else
+    if auth_type_value a =? auth_type_value Kind.Key then Less else
+    if auth_type_value b =? auth_type_value Kind.Key then Greater else
+    if auth_type_value a =? auth_type_value Kind.MD2 then Less else Greater
 
 -- .. gives what the ranks give, on all sixteen pairs
 pub chain_is : (a b : AuthType) → chain a b ≡ strength a b
-chain_is None = elim [ None ↦ refl | MD2 ↦ refl | MD5 ↦ refl | Key ↦ refl ]
-chain_is MD2 = elim [ None ↦ refl | MD2 ↦ refl | MD5 ↦ refl | Key ↦ refl ]
-chain_is MD5 = elim [ None ↦ refl | MD2 ↦ refl | MD5 ↦ refl | Key ↦ refl ]
-chain_is Key = elim [ None ↦ refl | MD2 ↦ refl | MD5 ↦ refl | Key ↦ refl ]
+chain_is Kind.None = elim [ Kind.None ↦ refl | Kind.MD2 ↦ refl | Kind.MD5 ↦ refl | Kind.Key ↦ refl ]
+chain_is Kind.MD2 = elim [ Kind.None ↦ refl | Kind.MD2 ↦ refl | Kind.MD5 ↦ refl | Kind.Key ↦ refl ]
+chain_is Kind.MD5 = elim [ Kind.None ↦ refl | Kind.MD2 ↦ refl | Kind.MD5 ↦ refl | Kind.Key ↦ refl ]
+chain_is Kind.Key = elim [ Kind.None ↦ refl | Kind.MD2 ↦ refl | Kind.MD5 ↦ refl | Kind.Key ↦ refl ]
 
 -- weaker is a strict order ..
 abbrev pub ◌weaker◌ : AuthType → AuthType → Type 0
@@ -85,7 +84,7 @@ pub weaker_transitive : (a b c : AuthType) → a weaker b → b weaker c → a w
 weaker_transitive a b c e f = let g = (less a b).0 e in let h = (less b c).0 f in (less a c).1 (omega arith)
 
 -- .. with None < Key < MD2 < MD5
-pub weakest_first : (None weaker Key) × (Key weaker MD2) × (MD2 weaker MD5)
+pub weakest_first : (Kind.None weaker Kind.Key) × (Kind.Key weaker Kind.MD2) × (Kind.MD2 weaker Kind.MD5)
 weakest_first = (refl, refl, refl)
 
 -- each is as strong as itself alone
@@ -96,8 +95,8 @@ equal_iff a b = (λ e. same a b e, λ e. rw e (itself b))
     itself a = simp (le-ltb (rank a) (rank a) (omega arith))
 
     -- what a rank names
-    ranked : (a : AuthType) → get_or (None ∷ Key ∷ MD2 ∷ []) (rank a) MD5 ≡ a
-    ranked = elim [ None ↦ refl | MD2 ↦ refl | MD5 ↦ refl | Key ↦ refl ]
+    ranked : (a : AuthType) → get_or (Kind.None ∷ Kind.Key ∷ Kind.MD2 ∷ []) (rank a) Kind.MD5 ≡ a
+    ranked = elim [ Kind.None ↦ refl | Kind.MD2 ↦ refl | Kind.MD5 ↦ refl | Kind.Key ↦ refl ]
 
     same : (a b : AuthType) → strength a b ≡ Equal → a ≡ b
     same a b e = go (ltb (rank a) (rank b)) (ltb (rank b) (rank a)) refl refl e
@@ -124,10 +123,10 @@ greater_iff a b = (go (ltb (rank a) (rank b)) (ltb (rank b) (rank a)) refl, λ e
 
 -- is a type among those
 abbrev pub offered : Bool → Bool → Bool → Bool → AuthType → Bool
-offered key md5 md2 plain Key = key
-offered key md5 md2 plain MD5 = md5
-offered key md5 md2 plain MD2 = md2
-offered key md5 md2 plain None = plain
+offered key md5 md2 plain Kind.Key = key
+offered key md5 md2 plain Kind.MD5 = md5
+offered key md5 md2 plain Kind.MD2 = md2
+offered key md5 md2 plain Kind.None = plain
 
 -- it is among them, and none of them is stronger
 abbrev pub Strongest : Bool → Bool → Bool → Bool → AuthType → Type 0
@@ -136,41 +135,41 @@ Strongest key md5 md2 plain a = (offered key md5 md2 plain a ≡ true) × ((b : 
 unlike : false ≡ true → ⊥
 unlike e = let z : ◌≡◌ {A = ℕ} 0 1 = cc in omega arith
 
-some_not : {a : AuthType} → some a ≡ none → ⊥
+some_not : {a : AuthType} → Some a ≡ None → ⊥
 some_not e = let z : ◌≡◌ {A = ℕ} 0 1 = cc in omega arith
 
-highest : (key md5 md2 plain : Bool) (a : AuthType) → best_of key md5 md2 plain ≡ some a → (offered key md5 md2 plain a ≡ true) × ((b : AuthType) → offered key md5 md2 plain b ≡ true → rank b ≤ rank a)
-highest key true md2 plain a e = let z : MD5 ≡ a = cc in rw (← z) (refl, elim [ None ↦ λ o. lit≤ tt | MD2 ↦ λ o. lit≤ tt | MD5 ↦ λ o. lit≤ tt | Key ↦ λ o. lit≤ tt ])
-highest key false true plain a e = let z : MD2 ≡ a = cc in rw (← z) (refl, elim [ None ↦ λ o. lit≤ tt | MD2 ↦ λ o. lit≤ tt | MD5 ↦ λ o. absurd (unlike o) | Key ↦ λ o. lit≤ tt ])
-highest true false false plain a e = let z : Key ≡ a = cc in rw (← z) (refl, elim [ None ↦ λ o. lit≤ tt | MD2 ↦ λ o. absurd (unlike o) | MD5 ↦ λ o. absurd (unlike o) | Key ↦ λ o. lit≤ tt ])
-highest false false false true a e = let z : None ≡ a = cc in rw (← z) (refl, elim [ None ↦ λ o. lit≤ tt | MD2 ↦ λ o. absurd (unlike o) | MD5 ↦ λ o. absurd (unlike o) | Key ↦ λ o. absurd (unlike o) ])
+highest : (key md5 md2 plain : Bool) (a : AuthType) → best_of key md5 md2 plain ≡ Some a → (offered key md5 md2 plain a ≡ true) × ((b : AuthType) → offered key md5 md2 plain b ≡ true → rank b ≤ rank a)
+highest key true md2 plain a e = let z : Kind.MD5 ≡ a = cc in rw (← z) (refl, elim [ Kind.None ↦ λ o. lit≤ tt | Kind.MD2 ↦ λ o. lit≤ tt | Kind.MD5 ↦ λ o. lit≤ tt | Kind.Key ↦ λ o. lit≤ tt ])
+highest key false true plain a e = let z : Kind.MD2 ≡ a = cc in rw (← z) (refl, elim [ Kind.None ↦ λ o. lit≤ tt | Kind.MD2 ↦ λ o. lit≤ tt | Kind.MD5 ↦ λ o. absurd (unlike o) | Kind.Key ↦ λ o. lit≤ tt ])
+highest true false false plain a e = let z : Kind.Key ≡ a = cc in rw (← z) (refl, elim [ Kind.None ↦ λ o. lit≤ tt | Kind.MD2 ↦ λ o. absurd (unlike o) | Kind.MD5 ↦ λ o. absurd (unlike o) | Kind.Key ↦ λ o. lit≤ tt ])
+highest false false false true a e = let z : Kind.None ≡ a = cc in rw (← z) (refl, elim [ Kind.None ↦ λ o. lit≤ tt | Kind.MD2 ↦ λ o. absurd (unlike o) | Kind.MD5 ↦ λ o. absurd (unlike o) | Kind.Key ↦ λ o. absurd (unlike o) ])
 highest false false false false a e = absurd (some_not (sym e))
 
 -- There is none exactly where none is offered: "no type exactly when all four bits are clear".
-pub best_none : (key md5 md2 plain : Bool) → best_of key md5 md2 plain ≡ none ↔ ((a : AuthType) → offered key md5 md2 plain a ≡ false)
-best_none key md5 md2 plain = (go key md5 md2 plain, λ h. simp (h MD5, h MD2, h Key, h None))
+pub best_none : (key md5 md2 plain : Bool) → best_of key md5 md2 plain ≡ None ↔ ((a : AuthType) → offered key md5 md2 plain a ≡ false)
+best_none key md5 md2 plain = (go key md5 md2 plain, λ h. simp (h Kind.MD5, h Kind.MD2, h Kind.Key, h Kind.None))
   where
-    go : (key md5 md2 plain : Bool) → best_of key md5 md2 plain ≡ none → (a : AuthType) → offered key md5 md2 plain a ≡ false
+    go : (key md5 md2 plain : Bool) → best_of key md5 md2 plain ≡ None → (a : AuthType) → offered key md5 md2 plain a ≡ false
     go key true md2 plain e = absurd (some_not e)
     go key false true plain e = absurd (some_not e)
     go true false false plain e = absurd (some_not e)
     go false false false true e = absurd (some_not e)
-    go false false false false e = elim [ None ↦ refl | MD2 ↦ refl | MD5 ↦ refl | Key ↦ refl ]
+    go false false false false e = elim [ Kind.None ↦ refl | Kind.MD2 ↦ refl | Kind.MD5 ↦ refl | Kind.Key ↦ refl ]
 
 -- The best is exactly the strongest that is offered.
-pub best_iff : (key md5 md2 plain : Bool) (a : AuthType) → best_of key md5 md2 plain ≡ some a ↔ Strongest key md5 md2 plain a
+pub best_iff : (key md5 md2 plain : Bool) (a : AuthType) → best_of key md5 md2 plain ≡ Some a ↔ Strongest key md5 md2 plain a
 best_iff key md5 md2 plain a = (is, λ s. go (best_of key md5 md2 plain) refl s)
   where
-    is : best_of key md5 md2 plain ≡ some a → Strongest key md5 md2 plain a
+    is : best_of key md5 md2 plain ≡ Some a → Strongest key md5 md2 plain a
     is e = let (o, top) = highest key md5 md2 plain a e in (o, λ b p w. let h = top b p in let l = (less a b).0 w in omega arith)
 
-    go : (o : Option AuthType) → best_of key md5 md2 plain ≡ o → Strongest key md5 md2 plain a → o ≡ some a
-    go none p s = absurd (unlike (sym ((best_none key md5 md2 plain).0 p a) ∙ s.0))
-    go (some b) p s =
+    go : (o : Option AuthType) → best_of key md5 md2 plain ≡ o → Strongest key md5 md2 plain a → o ≡ Some a
+    go None p s = absurd (unlike (sym ((best_none key md5 md2 plain).0 p a) ∙ s.0))
+    go (Some b) p s =
         let (o, top) = highest key md5 md2 plain b p in
         let h = top a s.0 in
         let l : ltb (rank a) (rank b) ≡ false = no_less (ltb (rank a) (rank b)) λ e. s.1 b o ((less a b).1 (ltb-true (rank a) (rank b) e)) in
-        ap some ((equal_iff b a).0 (simp (le-ltb (rank b) (rank a) h, l)))
+        ap Some ((equal_iff b a).0 (simp (le-ltb (rank b) (rank a) h, l)))
       where
         no_less : (x : Bool) → (x ≡ true → ⊥) → x ≡ false
         no_less true h = absurd (h refl)

@@ -1,4 +1,3 @@
 pub mod Laws
-pub mod Said
 pub mod Session
 pub mod Unique

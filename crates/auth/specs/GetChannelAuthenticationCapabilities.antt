@@ -1,26 +1,17 @@
 -- Get Channel Authentication Capabilities. Document 01, "Capabilities"; IPMI 2.0, Table 22-15.
-use Rattle.std.specs.Prelude.{ℕ, ◌+◌, ◌-◌, Bool, true, false, not, List, [], ◌∷◌, length, if◌then◌else◌}
-use Rattle.std.proofs.Math.Option.{Option}
+use Rattle.std.specs.Prelude.{ℕ, ◌+◌, ◌-◌, Bool, true, false, not, List, [], ◌∷◌, length, if◌then◌else◌, Option}
 use Rattle.auth.specs.Auth.{privileges, privilege_value, best_of}
 use Rattle.base.specs.Choice.{◌<?◌}
 use Rattle.base.specs.Connection.{channel_of, channel_field}
 use Rattle.base.specs.Field.{Array, Bytes, byte, flag, flags}
 use Rattle.base.specs.Named.{named, required}
 use Rattle.base.specs.Outcome.{Outcome, accepted, refused, ◌>>=◌}
-use Rattle.base.specs.Refusal.{refusal}
 use Rattle.base.specs.Request.{request}
 use Rattle.base.specs.declared.connection.Channel.{Channel}
 use Rattle.auth.specs.declared.AuthType.{AuthType}
 use Rattle.auth.specs.declared.PrivilegeLevel.{PrivilegeLevel}
 use Rattle.auth.specs.declared.get_channel_authentication_capabilities.ChannelAuthenticationCapabilities.{ChannelAuthenticationCapabilities}
-use Rattle.auth.specs.declared.get_channel_authentication_capabilities.CommandAnswer.{CommandAnswer}
-use Rattle.auth.specs.declared.get_channel_authentication_capabilities.CommandAnswer.TheVariants.{Command, Refused}
 use Rattle.auth.specs.declared.get_channel_authentication_capabilities.GetChannelAuthenticationCapabilities.{GetChannelAuthenticationCapabilities}
-
--- each case's outcome
-abbrev pub said_command : CommandAnswer → Outcome GetChannelAuthenticationCapabilities
-said_command (Command command) = accepted command
-said_command (Refused r) = refusal r
 
 -- The request: byte 0 is the channel, above it bit 7, which asks for the extended answer; byte 1 is the level.
 
@@ -99,28 +90,6 @@ abbrev pub capabilities_of : List ℕ → Outcome ChannelAuthenticationCapabilit
 capabilities_of r =
     if length r <? 7 then refused 1 [] else
     if flag 7 (byte 1 r) then extended_of r else accepted (plain r)
-
--- beside a refusal: no flag, and zeros
-abbrev pub no_capabilities : ChannelAuthenticationCapabilities
-no_capabilities =
-    record {
-      channel_number = 0;
-      oem_proprietary = false;
-      key = false;
-      md5 = false;
-      md2 = false;
-      none = false;
-      kg_status = false;
-      per_message_authentication_enabled = false;
-      user_level_authentication_enabled = false;
-      non_null_usernames_enabled = false;
-      null_usernames_enabled = false;
-      anonymous_login_enabled = false;
-      ipmi2_connections_supported = false;
-      ipmi15_connections_supported = false;
-      oem_id = 0 ∷ 0 ∷ 0 ∷ [];
-      oem_auxiliary_data = 0;
-    }
 
 -- the strongest of the types that the answer offers
 abbrev pub best_auth : ChannelAuthenticationCapabilities → Option AuthType

@@ -1,7 +1,6 @@
-// The three algorithms of a suite: the Rust's auth/algorithms.rs. `try_from` is its TryFrom<u8>, `value` its From for u8.
-ghost use Rattle.std.specs.Prelude.{◌≡◌};
-ghost use Rattle.auth.specs.Algorithms.{authentication_of, authentication_value, confidentiality_of, confidentiality_value, integrity_of, integrity_value, said_authentication, said_confidentiality, said_integrity};
-ghost use Rattle.base.specs.Outcome.{accepted};
+// The three algorithms of a suite: the Rust's auth/algorithms.rs.
+ghost use Rattle.std.specs.Prelude.{◌≡◌, ok_or};
+ghost use Rattle.auth.specs.Algorithms.{authentication_of, authentication_value, confidentiality_of, confidentiality_value, integrity_of, integrity_value};
 
 #[derive(Clone, Copy)]
 pub enum AuthenticationAlgorithm {
@@ -11,29 +10,27 @@ pub enum AuthenticationAlgorithm {
     RakpHmacSha256,
 }
 
-#[derive(Drop)]
-pub enum AuthenticationAnswer {
-    Algorithm(AuthenticationAlgorithm),
-    Nothing,
-}
+impl TryFrom<u8> for AuthenticationAlgorithm {
+    type Error = ();
 
-impl AuthenticationAlgorithm {
-    pub fn try_from(value: u8) -> AuthenticationAnswer
-        ensures { said_authentication result ≡ accepted (authentication_of value) }
-    {
+    ghost try_from_gives = { λ value result. result ≡ ok_or (authentication_of value) tt };
+
+    fn try_from(value: u8) -> Result<Self, ()> {
         match value {
-            0 => AuthenticationAnswer::Algorithm(AuthenticationAlgorithm::RakpNone),
-            1 => AuthenticationAnswer::Algorithm(AuthenticationAlgorithm::RakpHmacSha1),
-            2 => AuthenticationAnswer::Algorithm(AuthenticationAlgorithm::RakpHmacMd5),
-            3 => AuthenticationAnswer::Algorithm(AuthenticationAlgorithm::RakpHmacSha256),
-            _ => AuthenticationAnswer::Nothing,
+            0 => Ok(AuthenticationAlgorithm::RakpNone),
+            1 => Ok(AuthenticationAlgorithm::RakpHmacSha1),
+            2 => Ok(AuthenticationAlgorithm::RakpHmacMd5),
+            3 => Ok(AuthenticationAlgorithm::RakpHmacSha256),
+            _ => Err(()),
         }
     }
+}
 
-    pub fn value(self) -> u8
-        ensures { result ≡ authentication_value self }
-    {
-        match self {
+impl From<AuthenticationAlgorithm> for u8 {
+    ghost from_gives = { λ algorithm value. value ≡ authentication_value algorithm };
+
+    fn from(algorithm: AuthenticationAlgorithm) -> u8 {
+        match algorithm {
             AuthenticationAlgorithm::RakpNone => 0,
             AuthenticationAlgorithm::RakpHmacSha1 => 1,
             AuthenticationAlgorithm::RakpHmacMd5 => 2,
@@ -50,29 +47,27 @@ pub enum ConfidentialityAlgorithm {
     Xrc4_40,
 }
 
-#[derive(Drop)]
-pub enum ConfidentialityAnswer {
-    Algorithm(ConfidentialityAlgorithm),
-    Nothing,
-}
+impl TryFrom<u8> for ConfidentialityAlgorithm {
+    type Error = ();
 
-impl ConfidentialityAlgorithm {
-    pub fn try_from(value: u8) -> ConfidentialityAnswer
-        ensures { said_confidentiality result ≡ accepted (confidentiality_of value) }
-    {
+    ghost try_from_gives = { λ value result. result ≡ ok_or (confidentiality_of value) tt };
+
+    fn try_from(value: u8) -> Result<Self, ()> {
         match value {
-            0 => ConfidentialityAnswer::Algorithm(ConfidentialityAlgorithm::None),
-            1 => ConfidentialityAnswer::Algorithm(ConfidentialityAlgorithm::AesCbc128),
-            2 => ConfidentialityAnswer::Algorithm(ConfidentialityAlgorithm::Xrc4_128),
-            3 => ConfidentialityAnswer::Algorithm(ConfidentialityAlgorithm::Xrc4_40),
-            _ => ConfidentialityAnswer::Nothing,
+            0 => Ok(ConfidentialityAlgorithm::None),
+            1 => Ok(ConfidentialityAlgorithm::AesCbc128),
+            2 => Ok(ConfidentialityAlgorithm::Xrc4_128),
+            3 => Ok(ConfidentialityAlgorithm::Xrc4_40),
+            _ => Err(()),
         }
     }
+}
 
-    pub fn value(self) -> u8
-        ensures { result ≡ confidentiality_value self }
-    {
-        match self {
+impl From<ConfidentialityAlgorithm> for u8 {
+    ghost from_gives = { λ algorithm value. value ≡ confidentiality_value algorithm };
+
+    fn from(algorithm: ConfidentialityAlgorithm) -> u8 {
+        match algorithm {
             ConfidentialityAlgorithm::None => 0,
             ConfidentialityAlgorithm::AesCbc128 => 1,
             ConfidentialityAlgorithm::Xrc4_128 => 2,
@@ -90,30 +85,28 @@ pub enum IntegrityAlgorithm {
     HmacSha256_128,
 }
 
-#[derive(Drop)]
-pub enum IntegrityAnswer {
-    Algorithm(IntegrityAlgorithm),
-    Nothing,
-}
+impl TryFrom<u8> for IntegrityAlgorithm {
+    type Error = ();
 
-impl IntegrityAlgorithm {
-    pub fn try_from(value: u8) -> IntegrityAnswer
-        ensures { said_integrity result ≡ accepted (integrity_of value) }
-    {
+    ghost try_from_gives = { λ value result. result ≡ ok_or (integrity_of value) tt };
+
+    fn try_from(value: u8) -> Result<Self, ()> {
         match value {
-            0 => IntegrityAnswer::Algorithm(IntegrityAlgorithm::None),
-            1 => IntegrityAnswer::Algorithm(IntegrityAlgorithm::HmacSha1_96),
-            2 => IntegrityAnswer::Algorithm(IntegrityAlgorithm::HmacMd5_128),
-            3 => IntegrityAnswer::Algorithm(IntegrityAlgorithm::Md5_128),
-            4 => IntegrityAnswer::Algorithm(IntegrityAlgorithm::HmacSha256_128),
-            _ => IntegrityAnswer::Nothing,
+            0 => Ok(IntegrityAlgorithm::None),
+            1 => Ok(IntegrityAlgorithm::HmacSha1_96),
+            2 => Ok(IntegrityAlgorithm::HmacMd5_128),
+            3 => Ok(IntegrityAlgorithm::Md5_128),
+            4 => Ok(IntegrityAlgorithm::HmacSha256_128),
+            _ => Err(()),
         }
     }
+}
 
-    pub fn value(self) -> u8
-        ensures { result ≡ integrity_value self }
-    {
-        match self {
+impl From<IntegrityAlgorithm> for u8 {
+    ghost from_gives = { λ algorithm value. value ≡ integrity_value algorithm };
+
+    fn from(algorithm: IntegrityAlgorithm) -> u8 {
+        match algorithm {
             IntegrityAlgorithm::None => 0,
             IntegrityAlgorithm::HmacSha1_96 => 1,
             IntegrityAlgorithm::HmacMd5_128 => 2,

@@ -1,29 +1,20 @@
 // Get Channel Authentication Capabilities, App 38h: IPMI 2.0, Table 22-15; the Rust's get_channel_authentication_capabilities.rs.
 ghost use Rattle.std.specs.Prelude.{◌≡◌};
-ghost use Rattle.auth.specs.Auth.{said_auth_type};
-ghost use Rattle.auth.specs.GetChannelAuthenticationCapabilities.{Typed, best_auth, capabilities_bytes, capabilities_from, capabilities_of, command, command_bytes, command_for, command_of, extended_of, no_capabilities, said_command};
+ghost use Rattle.auth.specs.GetChannelAuthenticationCapabilities.{Typed, best_auth, capabilities_bytes, capabilities_from, capabilities_of, command, command_bytes, command_for, command_of, extended_of};
 ghost use Rattle.base.specs.Outcome.{accepted};
-ghost use Rattle.base.specs.Verdict.{Gives};
+ghost use Rattle.base.specs.Refusal.{said};
 ghost use Rattle.base.specs.Written.{Writes};
 
-use crate::{AuthType, AuthTypeAnswer, PrivilegeAnswer, PrivilegeLevel};
-use base::connection::{Channel, ChannelAnswer};
-use base::field::{FieldAnswer, flag, flags};
+use crate::{AuthType, PrivilegeLevel};
+use base::connection::Channel;
+use base::field::{flag, flags};
 use base::refusal::Refusal;
-use base::verdict::Verdict;
-use base::written::{Written, place};
+use base::written::place;
 
 #[derive(Drop)]
 pub struct GetChannelAuthenticationCapabilities {
     pub channel_number: Channel,
     pub privilege_level: PrivilegeLevel,
-}
-
-// Refused 6 where it is made for a number, 10 where it is read.
-#[derive(Drop)]
-pub enum CommandAnswer {
-    Command(GetChannelAuthenticationCapabilities),
-    Refused(Refusal),
 }
 
 impl GetChannelAuthenticationCapabilities {
@@ -39,45 +30,38 @@ impl GetChannelAuthenticationCapabilities {
     }
 
     // For a channel that is given as a number.
-    pub fn numbered(number: u8, privilege_level: PrivilegeLevel) -> CommandAnswer
-        ensures { said_command result ≡ command_for number privilege_level }
+    pub fn numbered(number: u8, privilege_level: PrivilegeLevel) -> Result<Self, Refusal>
+        ensures { said result ≡ command_for number privilege_level }
     {
-        let ChannelAnswer::Channel(channel) = Channel::new(number) else {
-            return CommandAnswer::Refused(Refusal::NoChannel);
-        };
-        CommandAnswer::Command(Self::new(channel, privilege_level))
+        Ok(Self::new(Channel::new(number)?, privilege_level))
     }
 
     // The request's data. Bit 7 asks for the extended answer.
-    pub fn write(self, out: &mut [u8]) -> Written
+    pub fn write(self, out: &mut [u8]) -> Result<usize, Refusal>
         ensures { Writes (command_bytes self) result out.old out.new }
     {
-        let channel = self.channel_number;
-        let level = self.privilege_level;
-        let FieldAnswer::Number(number) = channel.field() else {
-            return Written::Refused(Refusal::NoForm);
-        };
-        place(&[0x80 + number, level.value()], out)
+        let number = self.channel_number.field()?;
+        place(&[0x80 + number, u8::from(self.privilege_level)], out)
     }
 
     // The command whose request this is: takes only what some command writes.
-    pub fn read(request: &[u8]) -> CommandAnswer
-        ensures { said_command result ≡ command_of request.now }
+    pub fn read(request: &[u8]) -> Result<Self, Refusal>
+        ensures { said result ≡ command_of request.now }
     {
         if request.len() != 2 {
-            return CommandAnswer::Refused(Refusal::NotARequest);
+            return Err(Refusal::NotARequest);
         }
         let first = request[0];
         if first < 0x80 {
-            return CommandAnswer::Refused(Refusal::NotARequest);
+            return Err(Refusal::NotARequest);
         }
-        let ChannelAnswer::Channel(channel) = Channel::new(first - 0x80) else {
-            return CommandAnswer::Refused(Refusal::NotARequest);
+        let Ok(channel) = Channel::new(first - 0x80) else {
+            return Err(Refusal::NotARequest);
         };
-        let PrivilegeAnswer::Level(level) = PrivilegeLevel::numbered(request[1]) else {
-            return CommandAnswer::Refused(Refusal::NotARequest);
+        let Some(level) = PrivilegeLevel::numbered(request[1]) else {
+            return Err(Refusal::NotARequest);
         };
-        CommandAnswer::Command(Self::new(channel, level))
+        Ok(Self::new(channel, level))
     }
 }
 
@@ -99,13 +83,6 @@ pub struct ChannelAuthenticationCapabilities {
     pub ipmi15_connections_supported: bool,
     pub oem_id: [u8; 3],
     pub oem_auxiliary_data: u8,
-}
-
-// The record is the empty one where the verdict is a refusal.
-#[derive(Drop)]
-pub struct CapabilitiesAnswer {
-    pub verdict: Verdict,
-    pub capabilities: ChannelAuthenticationCapabilities,
 }
 
 impl ChannelAuthenticationCapabilities {
@@ -147,37 +124,11 @@ impl ChannelAuthenticationCapabilities {
         }
     }
 
-    fn empty() -> Self
-        ensures { result ≡ no_capabilities }
-    {
-        Self {
-            channel_number: 0,
-            oem_proprietary: false,
-            key: false,
-            md5: false,
-            md2: false,
-            none: false,
-            kg_status: false,
-            per_message_authentication_enabled: false,
-            user_level_authentication_enabled: false,
-            non_null_usernames_enabled: false,
-            null_usernames_enabled: false,
-            anonymous_login_enabled: false,
-            ipmi2_connections_supported: false,
-            ipmi15_connections_supported: false,
-            oem_id: [0, 0, 0],
-            oem_auxiliary_data: 0,
-        }
-    }
-
-    fn extended(response: &[u8]) -> CapabilitiesAnswer
-        ensures { Gives (extended_of response.now) no_capabilities result.verdict result.capabilities }
+    fn extended(response: &[u8]) -> Result<Self, Refusal>
+        ensures { said result ≡ extended_of response.now }
     {
         if response.len() < 8 {
-            return CapabilitiesAnswer {
-                verdict: Verdict::Refused(Refusal::NotEnoughData),
-                capabilities: Self::empty(),
-            };
+            return Err(Refusal::NotEnoughData);
         }
         let channel = response[0];
         let types = response[1];
@@ -186,21 +137,16 @@ impl ChannelAuthenticationCapabilities {
         let v2 = flag(response[3], 1);
         let v15 = flag(response[3], 0);
         let id = [response[4], response[5], response[6]];
-        CapabilitiesAnswer {
-            verdict: Verdict::Accepted,
-            capabilities: Self::from_bytes(channel, types, status, kg, v2, v15, id, response[7]),
-        }
+        let aux = response[7];
+        Ok(Self::from_bytes(channel, types, status, kg, v2, v15, id, aux))
     }
 
     // Without bit 7 of byte 1 the OEM fields stand one byte earlier than with it.
-    pub fn parse(response: &[u8]) -> CapabilitiesAnswer
-        ensures { Gives (capabilities_of response.now) no_capabilities result.verdict result.capabilities }
+    pub fn parse(response: &[u8]) -> Result<Self, Refusal>
+        ensures { said result ≡ capabilities_of response.now }
     {
         if response.len() < 7 {
-            return CapabilitiesAnswer {
-                verdict: Verdict::Refused(Refusal::NotEnoughData),
-                capabilities: Self::empty(),
-            };
+            return Err(Refusal::NotEnoughData);
         }
         let channel = response[0];
         let types = response[1];
@@ -210,20 +156,17 @@ impl ChannelAuthenticationCapabilities {
         }
         let id = [response[3], response[4], response[5]];
         let aux = response[6];
-        CapabilitiesAnswer {
-            verdict: Verdict::Accepted,
-            capabilities: Self::from_bytes(channel, types, status, false, false, false, id, aux),
-        }
+        Ok(Self::from_bytes(channel, types, status, false, false, false, id, aux))
     }
 
-    pub fn best_auth(self) -> AuthTypeAnswer
-        ensures { said_auth_type result ≡ accepted (best_auth self) }
+    pub fn best_auth(self) -> Option<AuthType>
+        ensures { result ≡ best_auth self }
     {
         AuthType::best_of(self.key, self.md5, self.md2, self.none)
     }
 
     // The response's data, always in the extended form.
-    pub fn write(self, out: &mut [u8]) -> Written
+    pub fn write(self, out: &mut [u8]) -> Result<usize, Refusal>
         ensures { Writes (accepted (capabilities_bytes self)) result out.old out.new }
     {
         let types = flags(

@@ -1,14 +1,16 @@
-// The session's messages: the Rust's auth/mod.rs. `try_from` is its TryFrom<u8>, `value` its From for u8, `name` its Debug.
+// The session's messages: the Rust's auth/mod.rs. `name` is its Debug.
 #![tactic(auto)]
 
-ghost use Rattle.std.specs.Prelude.{◌≡◌};
-ghost use Rattle.auth.specs.Auth.{auth_type_name, auth_type_of, auth_type_value, auth_types, best_of, privilege_of, privilege_value, privileges, rank, said_auth_type, said_privilege, strength};
+ghost use Rattle.std.specs.Prelude.{◌≡◌, ok_or};
+ghost use Rattle.auth.specs.Auth.{auth_type_name, auth_type_of, auth_type_value, auth_types, best_of, privilege_of, privilege_value, privileges, rank, strength};
 ghost use Rattle.base.specs.Named.{named};
 ghost use Rattle.base.specs.Outcome.{accepted};
 ghost use Rattle.base.specs.Written.{Writes};
 
 use base::field::bits;
-use base::written::{Written, place};
+use base::refusal::Refusal;
+use base::written::place;
+use std::cmp::Ordering;
 
 pub mod algorithms;
 pub mod get_channel_authentication_capabilities;
@@ -21,53 +23,21 @@ pub enum AuthType {
     Key,
 }
 
-#[derive(Drop)]
-pub enum AuthTypeAnswer {
-    AuthType(AuthType),
-    Nothing,
-}
-
-// Rust's core::cmp::Ordering.
-#[derive(Drop)]
-pub enum Ordering {
-    Less,
-    Equal,
-    Greater,
-}
-
 impl AuthType {
-    // The low nibble counts: the high one is reserved.
-    pub fn try_from(value: u8) -> AuthTypeAnswer
-        ensures { said_auth_type result ≡ accepted (auth_type_of value) }
-    {
-        AuthType::numbered(bits(value, 0, 4))
-    }
-
     // The whole number counts, as in what a command writes.
-    pub fn numbered(number: u8) -> AuthTypeAnswer
-        ensures { said_auth_type result ≡ accepted (named auth_types number) }
+    pub fn numbered(number: u8) -> Option<Self>
+        ensures { result ≡ named auth_types number }
     {
         match number {
-            0 => AuthTypeAnswer::AuthType(AuthType::None),
-            1 => AuthTypeAnswer::AuthType(AuthType::MD2),
-            2 => AuthTypeAnswer::AuthType(AuthType::MD5),
-            4 => AuthTypeAnswer::AuthType(AuthType::Key),
-            _ => AuthTypeAnswer::Nothing,
+            0 => Some(AuthType::None),
+            1 => Some(AuthType::MD2),
+            2 => Some(AuthType::MD5),
+            4 => Some(AuthType::Key),
+            _ => None,
         }
     }
 
-    pub fn value(self) -> u8
-        ensures { result ≡ auth_type_value self }
-    {
-        match self {
-            AuthType::None => 0,
-            AuthType::MD2 => 1,
-            AuthType::MD5 => 2,
-            AuthType::Key => 4,
-        }
-    }
-
-    pub fn name(self, out: &mut [u8]) -> Written
+    pub fn name(self, out: &mut [u8]) -> Result<usize, Refusal>
         ensures { Writes (accepted (auth_type_name self)) result out.old out.new }
     {
         match self {
@@ -94,34 +64,48 @@ impl AuthType {
     pub fn compare_strength(self, other: Self) -> Ordering
         ensures { result ≡ strength self other }
     {
-        let one = self.rank();
-        let two = other.rank();
-        if one < two {
-            return Ordering::Less;
-        }
-        if two < one {
-            return Ordering::Greater;
-        }
-        Ordering::Equal
+        self.rank().cmp(&other.rank())
     }
 
     // The strongest of the types that are offered: `best_iff`.
-    pub fn best_of(key: bool, md5: bool, md2: bool, none: bool) -> AuthTypeAnswer
-        ensures { said_auth_type result ≡ accepted (best_of key md5 md2 none) }
+    pub fn best_of(key: bool, md5: bool, md2: bool, none: bool) -> Option<Self>
+        ensures { result ≡ best_of key md5 md2 none }
     {
         if md5 {
-            return AuthTypeAnswer::AuthType(AuthType::MD5);
+            Some(AuthType::MD5)
+        } else if md2 {
+            Some(AuthType::MD2)
+        } else if key {
+            Some(AuthType::Key)
+        } else if none {
+            Some(AuthType::None)
+        } else {
+            None
         }
-        if md2 {
-            return AuthTypeAnswer::AuthType(AuthType::MD2);
+    }
+}
+
+impl TryFrom<u8> for AuthType {
+    type Error = ();
+
+    ghost try_from_gives = { λ value result. result ≡ ok_or (auth_type_of value) tt };
+
+    // The low nibble counts: the high one is reserved.
+    fn try_from(value: u8) -> Result<Self, ()> {
+        AuthType::numbered(bits(value, 0, 4)).ok_or(())
+    }
+}
+
+impl From<AuthType> for u8 {
+    ghost from_gives = { λ kind value. value ≡ auth_type_value kind };
+
+    fn from(kind: AuthType) -> u8 {
+        match kind {
+            AuthType::None => 0,
+            AuthType::MD2 => 1,
+            AuthType::MD5 => 2,
+            AuthType::Key => 4,
         }
-        if key {
-            return AuthTypeAnswer::AuthType(AuthType::Key);
-        }
-        if none {
-            return AuthTypeAnswer::AuthType(AuthType::None);
-        }
-        AuthTypeAnswer::Nothing
     }
 }
 
@@ -134,38 +118,38 @@ pub enum PrivilegeLevel {
     OemProperietary,
 }
 
-#[derive(Drop)]
-pub enum PrivilegeAnswer {
-    Level(PrivilegeLevel),
-    Nothing,
-}
-
 impl PrivilegeLevel {
-    // The low nibble counts.
-    pub fn try_from(value: u8) -> PrivilegeAnswer
-        ensures { said_privilege result ≡ accepted (privilege_of value) }
-    {
-        PrivilegeLevel::numbered(bits(value, 0, 4))
-    }
-
     // The whole number counts, as in what a command writes.
-    pub fn numbered(number: u8) -> PrivilegeAnswer
-        ensures { said_privilege result ≡ accepted (named privileges number) }
+    pub fn numbered(number: u8) -> Option<Self>
+        ensures { result ≡ named privileges number }
     {
         match number {
-            1 => PrivilegeAnswer::Level(PrivilegeLevel::Callback),
-            2 => PrivilegeAnswer::Level(PrivilegeLevel::User),
-            3 => PrivilegeAnswer::Level(PrivilegeLevel::Operator),
-            4 => PrivilegeAnswer::Level(PrivilegeLevel::Administrator),
-            5 => PrivilegeAnswer::Level(PrivilegeLevel::OemProperietary),
-            _ => PrivilegeAnswer::Nothing,
+            1 => Some(PrivilegeLevel::Callback),
+            2 => Some(PrivilegeLevel::User),
+            3 => Some(PrivilegeLevel::Operator),
+            4 => Some(PrivilegeLevel::Administrator),
+            5 => Some(PrivilegeLevel::OemProperietary),
+            _ => None,
         }
     }
+}
 
-    pub fn value(self) -> u8
-        ensures { result ≡ privilege_value self }
-    {
-        match self {
+impl TryFrom<u8> for PrivilegeLevel {
+    type Error = ();
+
+    ghost try_from_gives = { λ value result. result ≡ ok_or (privilege_of value) tt };
+
+    // The low nibble counts.
+    fn try_from(value: u8) -> Result<Self, ()> {
+        PrivilegeLevel::numbered(bits(value, 0, 4)).ok_or(())
+    }
+}
+
+impl From<PrivilegeLevel> for u8 {
+    ghost from_gives = { λ level value. value ≡ privilege_value level };
+
+    fn from(level: PrivilegeLevel) -> u8 {
+        match level {
             PrivilegeLevel::Callback => 1,
             PrivilegeLevel::User => 2,
             PrivilegeLevel::Operator => 3,

@@ -1,12 +1,11 @@
 -- Laws of Get Channel Authentication Capabilities.
-use Rattle.std.specs.Prelude.{◌≡◌, ℕ, ◌+◌, ◌-◌, ◌≤◌, Bool, true, false, not, ltb, ◌↔◌, List, [], ◌∷◌, length}
+use Rattle.std.specs.Prelude.{◌≡◌, ℕ, ◌+◌, ◌-◌, ◌≤◌, Bool, true, false, not, ltb, ◌↔◌, List, [], ◌∷◌, length, None}
 use mathlib.Core.Path.{refl, ap, ◌∙◌}
-use mathlib.Core.Option.{none}
 use native.Mathlib.Omega.{arith}
 use borrow.Author.Tests.{ltb-false, le-ltb}
 use Rattle.auth.specs.Auth.{privileges, privilege_value}
 use Rattle.auth.specs.GetChannelAuthenticationCapabilities.{Typed, asked_channel, asked_level, best_auth, capabilities_bytes, capabilities_from, capabilities_of, command, command_bytes, command_of, extended_of}
-use Rattle.auth.specs.declared.AuthType.TheVariants.{None, MD2, MD5, Key}
+use Rattle.auth.specs.declared.AuthType.TheVariants as Kind
 use Rattle.auth.specs.declared.PrivilegeLevel.{PrivilegeLevel}
 use Rattle.auth.specs.declared.get_channel_authentication_capabilities.ChannelAuthenticationCapabilities.{ChannelAuthenticationCapabilities}
 use Rattle.auth.specs.declared.get_channel_authentication_capabilities.GetChannelAuthenticationCapabilities.{GetChannelAuthenticationCapabilities}
@@ -99,7 +98,7 @@ capabilities_back c h =
     )
 
 -- "no type exactly when all four bits are clear"
-pub no_auth_iff : (c : ChannelAuthenticationCapabilities) → best_auth c ≡ none ↔ (c.md5 ≡ false) × (c.md2 ≡ false) × (c.key ≡ false) × (c.none ≡ false)
+pub no_auth_iff : (c : ChannelAuthenticationCapabilities) → best_auth c ≡ None ↔ (c.md5 ≡ false) × (c.md2 ≡ false) × (c.key ≡ false) × (c.none ≡ false)
 no_auth_iff c =
     let none-iff = best_none c.key c.md5 c.md2 c.none in
-    ((λ e. let f = none-iff.0 e in (f MD5, f MD2, f Key, f None)), λ h. none-iff.1 (elim [ None ↦ h.3 | MD2 ↦ h.1 | MD5 ↦ h.0 | Key ↦ h.2 ]))
+    ((λ e. let f = none-iff.0 e in (f Kind.MD5, f Kind.MD2, f Kind.Key, f Kind.None)), λ h. none-iff.1 (elim [ Kind.None ↦ h.3 | Kind.MD2 ↦ h.1 | Kind.MD5 ↦ h.0 | Kind.Key ↦ h.2 ]))
