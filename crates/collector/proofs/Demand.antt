@@ -9,7 +9,8 @@ use lib.ListN.{length, drop, get_or}
 use Rattle.base.specs.Field.{Bytes}
 use Rattle.base.specs.Outcome.{Outcome, accepted, refused, is_accepted}
 use Rattle.base.proofs.little.Laws.{bytes_drop, bytes_take}
-use Rattle.collector.specs.Collector.{complete, missing, last_index, part_length, capacity, answer_of, well_formed, taking, lowest, is_complete, standing_of, list_of}
+use Rattle.collector.specs.Collector.{last_index, part_length, capacity, answer_of, well_formed, taking, lowest, is_complete, standing_of, list_of}
+use Rattle.collector.specs.declared.Status.TheVariants.{Complete, Missing}
 use Rattle.collector.specs.Demand.{Call, AllBytes, HeardIn, Explains, AllHeard, Explained, Demand3, IsList, controllers, collecting}
 use Rattle.collector.specs.Histories.{Among, Reachable, Typed, after, accepted_of}
 use Rattle.collector.specs.Parts.{Parts}
@@ -26,13 +27,13 @@ use Rattle.collector.proofs.Step.StepView.{bad_index, too_long, repeats, differs
 
 -- where it stands, told
 
-complete_or : (c : Parts) (n : ℕ) → well_formed c ≡ true → standing_of c ≡ accepted (complete n) → is_complete c ≡ true
+complete_or : (c : Parts) (n : ℕ) → well_formed c ≡ true → standing_of c ≡ accepted (Complete n) → is_complete c ≡ true
 complete_or c n w e =
     ⊎_elim (λ (t : is_complete c ≡ true). t)
     (λ (f : is_complete c ≡ false). let z : ◌≡◌ {A = ℕ} 0 1 = cc (standing_missing c w f) in absurd (omega arith))
     (bool_cases (is_complete c))
 
-missing_or : (c : Parts) (k : ℕ) → well_formed c ≡ true → standing_of c ≡ accepted (missing k) → (is_complete c ≡ false) × (k ≡ lowest c.marks 64)
+missing_or : (c : Parts) (k : ℕ) → well_formed c ≡ true → standing_of c ≡ accepted (Missing k) → (is_complete c ≡ false) × (k ≡ lowest c.marks 64)
 missing_or c k w e =
     ⊎_elim (λ (t : is_complete c ≡ true). let z : ◌≡◌ {A = ℕ} 0 1 = cc (standing_complete c w t) in absurd (omega arith))
     (λ (f : is_complete c ≡ false). (f, cc (standing_missing c w f)))
@@ -41,7 +42,7 @@ missing_or c k w e =
 -- Of any history.
 module _ (h : List Call) (u : AllBytes h) where
   -- where an index is missing, it is the lowest that no accepted answer has
-  pub lowest_named : (k : ℕ) → standing_of (after h) ≡ accepted (missing k) → (HeardIn k (accepted_of h) → ⊥) × ((j : ℕ) → j < k → HeardIn j (accepted_of h)) × (k ≤ last_index)
+  pub lowest_named : (k : ℕ) → standing_of (after h) ≡ accepted (Missing k) → (HeardIn k (accepted_of h) → ⊥) × ((j : ℕ) → j < k → HeardIn j (accepted_of h)) × (k ≤ last_index)
   lowest_named k e =
       let (f, q) = missing_or (after h) k (history h u).wf e in
       let low : lowest (after h).marks 64 < 64 = incomplete_low (after h) f in (
@@ -122,14 +123,14 @@ module _ (list : List ℕ) (s : IsList list) where
     complete_all : is_complete (after h) ≡ true → AllHeard controllers list h
     complete_all c i il = subst (HeardIn i) all ((known h u).heard i (complete_heard (after h) list tells c i il))
 
-    whole : AllHeard controllers list h → (standing_of (after h) ≡ accepted (complete (length list))) × (list_of (after h) ≡ accepted list)
+    whole : AllHeard controllers list h → (standing_of (after h) ≡ accepted (Complete (length list))) × (list_of (after h) ≡ accepted list)
     whole y =
         let c : is_complete (after h) ≡ true = heard_complete (after h) list tells (λ i il. ((known h u).marked i (subst (HeardIn i) (sym all) (y i il))).1) in (
-          standing_complete (after h) (history h u).wf c ∙ ap (λ (x : ℕ). accepted (complete x)) (complete_low (after h) list tells c),
+          standing_complete (after h) (history h u).wf c ∙ ap (λ (x : ℕ). accepted (Complete x)) (complete_low (after h) list tells c),
           list_complete (after h) (history h u).wf c ∙ ap accepted (complete_bytes (after h) list tells (history h u).typed c),
         )
 
-    lowest_unheard : (AllHeard controllers list h → ⊥) → (i : ℕ) × (standing_of (after h) ≡ accepted (missing i)) × (HeardIn i h → ⊥) × ((j : ℕ) → j < i → HeardIn j h)
+    lowest_unheard : (AllHeard controllers list h → ⊥) → (i : ℕ) × (standing_of (after h) ≡ accepted (Missing i)) × (HeardIn i h → ⊥) × ((j : ℕ) → j < i → HeardIn j h)
     lowest_unheard n =
         ⊎_elim (λ (c : is_complete (after h) ≡ true). absurd (n (complete_all c)))
         (λ (f : is_complete (after h) ≡ false).

@@ -8,10 +8,12 @@ use native.Mathlib.Numerals.{add-one}
 use lib.ListN.{length, get_or, set, take}
 use borrow.Author.Tests.{eq-eqb, ne_eqb, lt-ltb, le-ltb}
 use Rattle.base.specs.Outcome.{accepted, refused}
+use Rattle.std.specs.Prelude.{Ok}
 use Rattle.collector.specs.Parts.{Parts}
 use Rattle.collector.specs.declared.Judgement.TheVariants.{Store}
 use Rattle.collector.specs.declared.shape.Shape.{Shape}
-use Rattle.collector.specs.Collector.{complete, missing, marks_fit, bytes_fit, well_formed, stands_at, has_part, put, joining, taking, is_complete, standing_of, list_of, least_to, lowest, held}
+use Rattle.collector.specs.Collector.{marks_fit, bytes_fit, well_formed, stands_at, has_part, put, joining, taking, is_complete, standing_of, list_of, least_to, lowest, held}
+use Rattle.collector.specs.declared.Status.TheVariants.{Complete, Missing}
 use Rattle.collector.specs.Shape.{shape_of, fits, complete_shape, ShapeFits, shape_with, Judged}
 use Rattle.collector.proofs.Basic.{both_left}
 use Rattle.collector.proofs.shape.Laws.{marks_by_shape, marks_with, put_test, lowest_free, free_small, fit_of, complete_by_shape}
@@ -101,7 +103,7 @@ module _ (bs ms : List ℕ) (s : Shape) (es : s ≡ shape_of ms) where
               ∙ sym (marks_with ms lm i n (omega arith) (sym em ∙ z))
               ∙ ap (λ (x : Shape). fits (shape_with x i n)) (sym es)
 
-          pub says_store : fits (shape_with s i n) ≡ true → Judged (held bs ms) i d Store
+          pub says_store : fits (shape_with s i n) ≡ true → Judged (held bs ms) i d (Ok Store)
           says_store f = (joins (held bs ms) i d w h k (sym em ∙ z) (put_by ∙ f), (h, k))
 
           pub says_clash : fits (shape_with s i n) ≡ false → taking (held bs ms) i d ≡ refused 12 []
@@ -130,10 +132,10 @@ module _ (c : Parts) where
   pub standing_9 : well_formed c ≡ false → standing_of c ≡ refused 9 []
   standing_9 w = rw w
 
-  pub standing_complete : well_formed c ≡ true → is_complete c ≡ true → standing_of c ≡ accepted (complete (least_to c.marks 64))
+  pub standing_complete : well_formed c ≡ true → is_complete c ≡ true → standing_of c ≡ accepted (Complete (least_to c.marks 64))
   standing_complete w e = rw (w, e)
 
-  pub standing_missing : well_formed c ≡ true → is_complete c ≡ false → standing_of c ≡ accepted (missing (lowest c.marks 64))
+  pub standing_missing : well_formed c ≡ true → is_complete c ≡ false → standing_of c ≡ accepted (Missing (lowest c.marks 64))
   standing_missing w e = rw (w, e)
 
   pub list_9 : well_formed c ≡ false → list_of c ≡ refused 9 []

@@ -10,7 +10,8 @@ use Rattle.std.specs.Prelude.{if◌then◌else◌}
 use Rattle.base.specs.Field.{Bytes}
 use Rattle.base.specs.Outcome.{Outcome, accepted, refused, ◌>>=◌, is_accepted}
 use Rattle.base.specs.Verdict.{record_of}
-use Rattle.collector.specs.Collector.{complete, missing, last_index}
+use Rattle.collector.specs.Collector.{last_index}
+use Rattle.collector.specs.declared.Status.TheVariants.{Complete, Missing}
 use Rattle.collector.specs.Demand.{Call, AllBytes, HeardIn, Keeper, made, taken, Controllers, Explains, last_needed, AllHeard, HasList, Asked, Explained, Demand3}
 use Rattle.collector.proofs.Basic.{true_not_false, bool_cases, lt_or_le}
 
@@ -47,7 +48,7 @@ module _ {S X : Type 0} (k : Keeper S) (c : Controllers X) (x : X) where
 
   -- Always asking the index that is named ends, by what is named and when it is complete.
   module _ (its_list : (h : List Call) → Explains c x h → AllHeard c x h → HasList c x k h)
-      (names_lowest : (h : List Call) → Explains c x h → (AllHeard c x h → ⊥) → (i : ℕ) × (k.standing (made k h) ≡ accepted (missing i)) × (HeardIn i h → ⊥) × ((j : ℕ) → j < i → HeardIn j h)) where
+      (names_lowest : (h : List Call) → Explains c x h → (AllHeard c x h → ⊥) → (i : ℕ) × (k.standing (made k h) ≡ accepted (Missing i)) × (HeardIn i h → ⊥) × ((j : ℕ) → j < i → HeardIn j h)) where
     -- the answers were heard at exactly the indexes below their number
     record Below (h : List Call) : Type 0 where
       explains : Explains c x h
@@ -56,7 +57,7 @@ module _ {S X : Type 0} (k : Keeper S) (c : Controllers X) (x : X) where
       short : length h ≤ suc (last_needed c x)
 
     abbrev GoesOn : List Call → Type 0
-    GoesOn h = (length h ≤ last_needed c x) × (k.standing (made k h) ≡ accepted (missing (length h)))
+    GoesOn h = (length h ≤ last_needed c x) × (k.standing (made k h) ≡ accepted (Missing (length h)))
 
     abbrev Ended : List Call → Type 0
     Ended h = (length h ≡ suc (last_needed c x)) × HasList c x k h
@@ -69,7 +70,7 @@ module _ {S X : Type 0} (k : Keeper S) (c : Controllers X) (x : X) where
         let ge : length h ≤ i = ⊎_elim (λ (p : i < length h). absurd (un (b.from i p))) (λ (p : length h ≤ i). p) (lt_or_le i (length h)) in
         let le : i ≤ length h = ⊎_elim (λ (p : length h < i). let z : length h < length h = b.to (length h) (under (length h) p) in absurd (omega arith)) (λ (p : i ≤ length h). p) (lt_or_le (length h) i) in
         let e : i ≡ length h = omega arith in
-        inl (omega arith, s ∙ ap (λ (n : ℕ). accepted (missing n)) e))
+        inl (omega arith, s ∙ ap (λ (n : ℕ). accepted (Missing n)) e))
         (λ (ge : suc (last_needed c x) ≤ length h). let n = b.short in inr (omega arith, its_list h b.explains (λ i il. b.from i (omega arith))))
         (lt_or_le (length h) (suc (last_needed c x)))
 
@@ -79,7 +80,7 @@ module _ {S X : Type 0} (k : Keeper S) (c : Controllers X) (x : X) where
         let b : Below h = below h q.1 in
         ⊎_elim
         (λ (t : GoesOn h).
-        let s : accepted (missing a.index) ≡ accepted (missing (length h)) = sym q.0.0 ∙ t.1 in
+        let s : accepted (Missing a.index) ≡ accepted (Missing (length h)) = sym q.0.0 ∙ t.1 in
         let e : a.index ≡ length h = cc in
         let le : length h ≤ last_needed c x = t.0 in
         record {
@@ -89,7 +90,7 @@ module _ {S X : Type 0} (k : Keeper S) (c : Controllers X) (x : X) where
           short = omega arith;
         })
         (λ (t : Ended h).
-        let s : accepted (missing a.index) ≡ accepted (complete (length (c.list x))) = sym q.0.0 ∙ t.1.0 in
+        let s : accepted (Missing a.index) ≡ accepted (Complete (length (c.list x))) = sym q.0.0 ∙ t.1.0 in
         let z : ◌≡◌ {A = ℕ} 0 1 = cc in
         absurd (omega arith))
         (told h b)
@@ -149,5 +150,5 @@ module _ {S T : Type 0} (k : Keeper S) (j : Keeper T) (f : S → T) (r : Follows
       its : (x : _) → c.Suits x → (h : List Call) → Explains c x h → AllHeard c x h → HasList c x j h
       its x s h e = rw (stands_follows h, list_follows h) (d.its_list x s h e)
 
-      names : (x : _) → c.Suits x → (h : List Call) → Explains c x h → (AllHeard c x h → ⊥) → (i : ℕ) × (j.standing (made j h) ≡ accepted (missing i)) × (HeardIn i h → ⊥) × ((n : ℕ) → n < i → HeardIn n h)
+      names : (x : _) → c.Suits x → (h : List Call) → Explains c x h → (AllHeard c x h → ⊥) → (i : ℕ) × (j.standing (made j h) ≡ accepted (Missing i)) × (HeardIn i h → ⊥) × ((n : ℕ) → n < i → HeardIn n h)
       names x s h e = rw (stands_follows h) (d.names_lowest x s h e)

@@ -7,7 +7,6 @@ pub mod History
 pub mod Keeping
 pub mod Parts
 pub mod Reach
-pub mod Said
 pub mod Step
 pub mod Stored
 pub mod Storing

@@ -12,16 +12,18 @@ use lib.Seq.{paste, get_or-set_same, get_or-set_other}
 use mir.Val.{bool_byte}
 use borrow.Author.Tests.{eq-eqb, ne_eqb, lt-ltb, eqb-true}
 use Rattle.base.specs.Outcome.{accepted, refused, ◌>>=◌}
+use Rattle.base.specs.Refusal.{refusal}
 use Rattle.base.specs.Verdict.{Gives}
 use Rattle.base.specs.declared.refusal.Refusal.{Refusal}
-use Rattle.base.specs.declared.verdict.Verdict.TheVariants.{Accepted, Refused}
-use Rattle.base.proofs.verdict.Laws.{giving, refusing}
-use Rattle.collector.specs.Collector.{complete, missing, held, lowest, least_to, complete_by, is_complete, well_formed, put, taking, standing_of, list_by}
+use Rattle.base.proofs.Verdict.{giving, refusing}
+use Rattle.std.specs.Prelude.{Result, Ok, Err}
+use Rattle.collector.specs.Collector.{held, lowest, least_to, complete_by, is_complete, well_formed, put, taking, standing_of, list_by}
+use Rattle.collector.specs.declared.Status.TheVariants.{Complete, Missing}
 use Rattle.collector.specs.Shape.{complete_shape, shape_of, HeardBelow, Judged, JudgedStored}
 use Rattle.collector.specs.Stored.{found, collector_of, parts_of, knowing, knows, well_stored, taking_stored, standing_stored, list_stored}
 use Rattle.collector.specs.declared.Collector.{Collector}
 use Rattle.collector.specs.declared.Judgement.{Judgement}
-use Rattle.collector.specs.declared.Judgement.TheVariants.{Store, Keep, Refuse}
+use Rattle.collector.specs.declared.Judgement.TheVariants.{Store, Keep}
 use Rattle.collector.specs.declared.shape.Shape.{Shape}
 use Rattle.collector.proofs.Basic.{both_left, both_right, bool_cases, eq_or_ne, low_small}
 use Rattle.collector.proofs.Complete.{lowest_below, lowest_le}
@@ -74,18 +76,18 @@ module _ (k : Collector) (w : well_stored k ≡ true) where
 
   -- so what is stored answers
 
-  pub says_complete : get_or k.known 1 0 ≡ 1 → (n : ℕ) → n ≡ least_to k.marks 64 → accepted (complete n) ≡ standing_stored k
+  pub says_complete : get_or k.known 1 0 ≡ 1 → (n : ℕ) → n ≡ least_to k.marks 64 → accepted (Complete n) ≡ standing_stored k
   unfolding is_complete
   says_complete e n q =
-      ⊎_elim (λ (y : complete_by k.marks ≡ true). rw w (ap (λ (x : ℕ). accepted (complete x)) q ∙ sym (standing_complete (parts_of k) parts_formed y)))
+      ⊎_elim (λ (y : complete_by k.marks ≡ true). rw w (ap (λ (x : ℕ). accepted (Complete x)) q ∙ sym (standing_complete (parts_of k) parts_formed y)))
       (λ (z : complete_by k.marks ≡ false). absurd (omega (arith, e, complete_known, ap bool_byte z)))
       (bool_cases (complete_by k.marks))
 
-  pub says_missing : (get_or k.known 1 0 ≡ 1 → ⊥) → accepted (missing (get_or k.known 0 0)) ≡ standing_stored k
+  pub says_missing : (get_or k.known 1 0 ≡ 1 → ⊥) → accepted (Missing (get_or k.known 0 0)) ≡ standing_stored k
   unfolding is_complete
   says_missing e =
       ⊎_elim (λ (y : complete_by k.marks ≡ true). absurd (e (complete_known ∙ ap bool_byte y)))
-      (λ (z : complete_by k.marks ≡ false). rw w (ap (λ (x : ℕ). accepted (missing x)) low_known ∙ sym (standing_missing (parts_of k) parts_formed z)))
+      (λ (z : complete_by k.marks ≡ false). rw w (ap (λ (x : ℕ). accepted (Missing x)) low_known ∙ sym (standing_missing (parts_of k) parts_formed z)))
       (bool_cases (complete_by k.marks))
 
 -- an answer
@@ -100,24 +102,24 @@ module _ (k : Collector) (i : ℕ) (d : List ℕ) where
     unfolding taking_stored
     on = rw w
 
-    pub judged : length k.known ≡ 2 → (v : Judgement) → Judged (parts_of k) i d v → JudgedStored k i d v
-    judged n Store (e, (h, l)) = (on ∙ rw e, (low_known k w, (h, l)))
-    judged n Keep e = on ∙ rw e (ap accepted (knowing_is k w n))
-    judged n (Refuse r) e = on ∙ rw e
+    pub judged : length k.known ≡ 2 → (v : Result Judgement Refusal) → Judged (parts_of k) i d v → JudgedStored k i d v
+    judged n (Ok Store) (e, (h, l)) = (on ∙ rw e, (low_known k w, (h, l)))
+    judged n (Ok Keep) e = on ∙ rw e (ap accepted (knowing_is k w n))
+    judged n (Err r) e = on ∙ rw e
 
   -- what a judgement leaves
 
-  module _ (v : Judgement) (j : JudgedStored k i d v) where
-    pub to_store : v ≡ Store → JudgedStored k i d Store
+  module _ (v : Result Judgement Refusal) (j : JudgedStored k i d v) where
+    pub to_store : v ≡ Ok Store → JudgedStored k i d (Ok Store)
     to_store e = subst (JudgedStored k i d) e j
 
-    pub left_store : v ≡ Store → (n : Collector) → n ≡ knowing (put (parts_of k) i d) → Gives (taking_stored k i d) k Accepted n
+    pub left_store : v ≡ Ok Store → (n : Collector) → n ≡ knowing (put (parts_of k) i d) → Gives (taking_stored k i d) k (Ok tt) n
     left_store e n q = giving k n ((to_store e).0 ∙ ap accepted (sym q))
 
-    pub left_keep : v ≡ Keep → Gives (taking_stored k i d) k Accepted k
+    pub left_keep : v ≡ Ok Keep → Gives (taking_stored k i d) k (Ok tt) k
     left_keep e = giving k k (subst (JudgedStored k i d) e j)
 
-    pub left_refuse : (r : Refusal) → v ≡ Refuse r → Gives (taking_stored k i d) k (Refused r) k
+    pub left_refuse : (r : Refusal) → v ≡ Err r → Gives (taking_stored k i d) k (Err r) k
     left_refuse r e = refusing k r (subst (JudgedStored k i d) e j)
 
 -- a part is stored, and what a search finds then
@@ -164,7 +166,7 @@ module _ (k : Collector) where
   by_standing = ⊎_elim (λ (w : well_stored k ≡ true). rw w) (λ (w : well_stored k ≡ false). rw w) (bool_cases (well_stored k))
 
   -- the length of a complete list
-  pub told_within : (n : ℕ) → standing_stored k ≡ accepted (complete n) → n ≤ 1024
+  pub told_within : (n : ℕ) → standing_stored k ≡ accepted (Complete n) → n ≤ 1024
   told_within n e =
       ⊎_elim
       (λ (w : well_stored k ≡ true).
@@ -176,11 +178,12 @@ module _ (k : Collector) where
       (bool_cases (well_stored k))
 
   -- the first bytes of the array, as the code cuts them out
-  pub told_list : (n : ℕ) → standing_stored k ≡ accepted (complete n) → list_stored k ≡ accepted (take (n - 0) (drop 0 k.bytes))
+  pub told_list : (n : ℕ) → standing_stored k ≡ accepted (Complete n) → list_stored k ≡ accepted (take (n - 0) (drop 0 k.bytes))
   told_list n e = let z : n - 0 ≡ n = omega arith in by_standing ∙ rw (e, z)
 
-  pub unlisted : (i : ℕ) → standing_stored k ≡ accepted (missing i) → list_stored k ≡ refused 13 (i ∷ [])
+  pub unlisted : (i : ℕ) → standing_stored k ≡ accepted (Missing i) → list_stored k ≡ refused 13 (i ∷ [])
   unlisted i e = by_standing ∙ rw e
 
-  pub unformed : standing_stored k ≡ refused 9 [] → list_stored k ≡ refused 9 []
-  unformed e = by_standing ∙ rw e
+  -- a collector that has no status has no list
+  pub unformed : (r : Refusal) → standing_stored k ≡ refusal r → list_stored k ≡ refusal r
+  unformed r e = by_standing ∙ rw e

@@ -5,7 +5,7 @@ use Rattle.base.specs.Choice.{◌<?◌, ◌=?◌}
 use Rattle.base.specs.Outcome.{Outcome, accepted, refused, ◌>>=◌}
 use Rattle.collector.specs.Parts.{Parts}
 use Rattle.collector.specs.declared.Status.{Status}
-use Rattle.collector.specs.declared.Status.TheVariants.{Complete, Missing, NoForm}
+use Rattle.collector.specs.declared.Status.TheVariants.{Complete, Missing}
 
 -- "0x3F"
 abbrev pub last_index : ℕ
@@ -122,28 +122,17 @@ complete_by marks = (lowest marks parts =? parts) or ((0 <? lowest marks parts) 
 unfoldable pub is_complete : Parts → Bool
 is_complete c = complete_by c.marks
 
--- where they stand: complete, with the list's length, or not, with the lowest unheard index
-pub data Standing : Type 0 where
-  complete : ℕ → Standing
-  missing : ℕ → Standing
-
--- 9 for "a collector that no calls make from a fresh one"
-abbrev pub standing_of : Parts → Outcome Standing
+-- where they stand: complete, with the list's length, or not, with the lowest unheard index; 9 for "a collector that no calls make from a fresh one"
+abbrev pub standing_of : Parts → Outcome Status
 standing_of c =
     if well_formed c
-    then accepted (if is_complete c then complete (least_to c.marks parts) else missing (lowest c.marks parts))
+    then accepted (if is_complete c then Complete (least_to c.marks parts) else Missing (lowest c.marks parts))
     else refused 9 []
 
--- each case's outcome
-abbrev pub said_status : Status → Outcome Standing
-said_status (Complete n) = accepted (complete n)
-said_status (Missing i) = accepted (missing i)
-said_status NoForm = refused 9 []
-
 -- the list, or 13 "with the lowest unheard index"
-abbrev pub list_by : List ℕ → Standing → Outcome (List ℕ)
-list_by bytes (complete n) = accepted (take n bytes)
-list_by bytes (missing i) = refused 13 (i ∷ [])
+abbrev pub list_by : List ℕ → Status → Outcome (List ℕ)
+list_by bytes (Complete n) = accepted (take n bytes)
+list_by bytes (Missing i) = refused 13 (i ∷ [])
 
 -- "asked for bytes ..: 9, then 13, then 11" (11 is the writer's)
 abbrev pub list_of : Parts → Outcome (List ℕ)

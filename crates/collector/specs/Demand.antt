@@ -3,7 +3,9 @@ use Rattle.std.specs.Prelude.{ℕ, suc, ◌/◌, ◌≤◌, ◌<◌, min, true, 
 use Rattle.base.specs.Field.{Bytes}
 use Rattle.base.specs.Outcome.{Outcome, accepted, is_accepted}
 use Rattle.base.specs.Verdict.{record_of}
-use Rattle.collector.specs.Collector.{Standing, complete, missing, last_index, part_length, capacity, answer_of, fresh, taking, standing_of, list_of}
+use Rattle.collector.specs.Collector.{last_index, part_length, capacity, answer_of, fresh, taking, standing_of, list_of}
+use Rattle.collector.specs.declared.Status.{Status}
+use Rattle.collector.specs.declared.Status.TheVariants.{Complete, Missing}
 use Rattle.collector.specs.Parts.{Parts}
 
 -- an answer with its index, of any size
@@ -28,7 +30,7 @@ pub record Keeper (S : Type 0) : Type 0 where
   -- what an answer with its index makes of it, or a refusal
   pub taking : S → ℕ → List ℕ → Outcome S
   -- complete, or the index that it names
-  pub standing : S → Outcome Standing
+  pub standing : S → Outcome Status
   -- its bytes
   pub list : S → Outcome (List ℕ)
 
@@ -70,12 +72,12 @@ module _ {X : Type 0} (c : Controllers X) (x : X) where
   module _ {S : Type 0} (k : Keeper S) where
     -- it says complete, with the list's length, and "its bytes are the list"
     abbrev pub HasList : List Call → Type 0
-    HasList h = (k.standing (made k h) ≡ accepted (complete (length (c.list x)))) × (k.list (made k h) ≡ accepted (c.list x))
+    HasList h = (k.standing (made k h) ≡ accepted (Complete (length (c.list x)))) × (k.list (made k h) ≡ accepted (c.list x))
 
     -- "Always asking that one, all heard": each call has the index that was named before it
     abbrev pub Asked : List Call → Type 0
     Asked [] = Unit {0}
-    Asked (call ∷ earlier) = ((k.standing (made k earlier) ≡ accepted (missing call.index)) × c.Answers x call.index call.content) × Asked earlier
+    Asked (call ∷ earlier) = ((k.standing (made k earlier) ≡ accepted (Missing call.index)) × c.Answers x call.index call.content) × Asked earlier
 
 -- some controller explains the calls
 pub record Explained {X : Type 0} (c : Controllers X) (calls : List Call) : Type 0 where
@@ -90,14 +92,14 @@ pub record Demand3 {S X : Type 0} (k : Keeper S) (c : Controllers X) : Type 0 wh
   -- "None is refused."
   pub none_refused : (x : X) → c.Suits x → (h : List Call) → Explains c x h → taken k h ≡ h
   -- "It says complete exactly when every index up to min(63, n/16 rounded down) was heard;"
-  pub complete_exactly : (x : X) → c.Suits x → (h : List Call) → Explains c x h → ((n : ℕ) × (k.standing (made k h) ≡ accepted (complete n))) ↔ AllHeard c x h
+  pub complete_exactly : (x : X) → c.Suits x → (h : List Call) → Explains c x h → ((n : ℕ) × (k.standing (made k h) ≡ accepted (Complete n))) ↔ AllHeard c x h
   -- "then its bytes are the list."
   pub its_list : (x : X) → c.Suits x → (h : List Call) → Explains c x h → AllHeard c x h → HasList c x k h
   -- "Before, it names the lowest unheard index."
-  pub names_lowest : (x : X) → c.Suits x → (h : List Call) → Explains c x h → (AllHeard c x h → ⊥) → (i : ℕ) × (k.standing (made k h) ≡ accepted (missing i)) × (HeardIn i h → ⊥) × ((j : ℕ) → j < i → HeardIn j h)
+  pub names_lowest : (x : X) → c.Suits x → (h : List Call) → Explains c x h → (AllHeard c x h → ⊥) → (i : ℕ) × (k.standing (made k h) ≡ accepted (Missing i)) × (HeardIn i h → ⊥) × ((j : ℕ) → j < i → HeardIn j h)
   -- "Always asking that one, all heard, ends after exactly min(63, n/16 rounded down) + 1 answers." After fewer it names the next, as many as were heard; and an answer to that there is.
   pub asking_ends : (x : X) → c.Suits x → (h : List Call) → Asked c x k h
-      → ((length h ≤ last_needed c x) × (k.standing (made k h) ≡ accepted (missing (length h)))) ⊎ ((length h ≡ suc (last_needed c x)) × HasList c x k h)
+      → ((length h ≤ last_needed c x) × (k.standing (made k h) ≡ accepted (Missing (length h)))) ⊎ ((length h ≡ suc (last_needed c x)) × HasList c x k h)
   -- "For any answers, one of legal index and length is refused exactly when no list of at most 1,024 bytes explains it together with those accepted."
   pub refused_exactly : (h : List Call) → AllBytes h → (a : Call) → Bytes a.content → a.index ≤ last_index → c.Legal a.content → is_accepted (k.taking (made k h) a.index a.content) ≡ false ↔ (Explained c (a ∷ taken k h) → ⊥)
   -- the same the other way round: where it is accepted, there is such a list

@@ -1,14 +1,15 @@
 -- What the private code computes: the marks' shape, by largest bytes; a judgement of an answer.
-use Rattle.std.specs.Prelude.{ℕ, zero, suc, ◌+◌, ◌-◌, ◌*◌, ◌≤◌, ◌<◌, max, Bool, true, false, List, ◌≡◌, length, get_or, if◌then◌else◌}
+use Rattle.std.specs.Prelude.{ℕ, zero, suc, ◌+◌, ◌-◌, ◌*◌, ◌≤◌, ◌<◌, max, Bool, true, false, List, ◌≡◌, length, get_or, if◌then◌else◌, Result, Ok, Err}
 use Rattle.base.specs.Choice.{◌<?◌, ◌=?◌}
 use Rattle.base.specs.Outcome.{accepted}
 use Rattle.base.specs.Refusal.{refusal}
+use Rattle.base.specs.declared.refusal.Refusal.{Refusal}
 use Rattle.collector.specs.Collector.{◌or◌, last_index, part_length, parts, put, taking, lowest}
 use Rattle.collector.specs.Parts.{Parts}
 use Rattle.collector.specs.Stored.{parts_of, knowing, taking_stored}
 use Rattle.collector.specs.declared.Collector.{Collector}
 use Rattle.collector.specs.declared.Judgement.{Judgement}
-use Rattle.collector.specs.declared.Judgement.TheVariants.{Store, Keep, Refuse}
+use Rattle.collector.specs.declared.Judgement.TheVariants.{Store, Keep}
 use Rattle.collector.specs.declared.shape.Shape.{Shape}
 
 -- the largest of f 0, .., f (n - 1), or 0
@@ -78,13 +79,13 @@ abbrev pub HeardBelow : List ℕ → ℕ → Type 0
 HeardBelow marks n = (i : ℕ) → i < n → get_or marks i 0 ≡ 0 → ⊥
 
 -- what is to be done with an answer
-abbrev pub Judged : Parts → ℕ → List ℕ → Judgement → Type 0
-Judged c i part Store = (taking c i part ≡ accepted (put c i part)) × ((i ≤ last_index) × (length part ≤ part_length))
-Judged c i part Keep = taking c i part ≡ accepted c
-Judged c i part (Refuse r) = taking c i part ≡ refusal r
+abbrev pub Judged : Parts → ℕ → List ℕ → Result Judgement Refusal → Type 0
+Judged c i part (Ok Store) = (taking c i part ≡ accepted (put c i part)) × ((i ≤ last_index) × (length part ≤ part_length))
+Judged c i part (Ok Keep) = taking c i part ≡ accepted c
+Judged c i part (Err r) = taking c i part ≡ refusal r
 
 -- the same of a collector, which then knows what a search would find
-abbrev pub JudgedStored : Collector → ℕ → List ℕ → Judgement → Type 0
-JudgedStored k i part Store = (taking_stored k i part ≡ accepted (knowing (put (parts_of k) i part))) × ((get_or k.known 0 0 ≡ lowest k.marks parts) × ((i ≤ last_index) × (length part ≤ part_length)))
-JudgedStored k i part Keep = taking_stored k i part ≡ accepted k
-JudgedStored k i part (Refuse r) = taking_stored k i part ≡ refusal r
+abbrev pub JudgedStored : Collector → ℕ → List ℕ → Result Judgement Refusal → Type 0
+JudgedStored k i part (Ok Store) = (taking_stored k i part ≡ accepted (knowing (put (parts_of k) i part))) × ((get_or k.known 0 0 ≡ lowest k.marks parts) × ((i ≤ last_index) × (length part ≤ part_length)))
+JudgedStored k i part (Ok Keep) = taking_stored k i part ≡ accepted k
+JudgedStored k i part (Err r) = taking_stored k i part ≡ refusal r

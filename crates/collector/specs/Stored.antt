@@ -3,7 +3,8 @@ use Rattle.std.specs.Prelude.{ℕ, Bool, List, [], ◌∷◌, ◌≡◌, get_or,
 use mir.Val.{bool_byte}
 use Rattle.base.specs.Choice.{◌=?◌}
 use Rattle.base.specs.Outcome.{Outcome, accepted, refused, ◌>>=◌}
-use Rattle.collector.specs.Collector.{◌and◌, parts, held, fresh, lowest, complete_by, well_formed, taking, Standing, standing_of, list_of}
+use Rattle.collector.specs.Collector.{◌and◌, parts, held, fresh, lowest, complete_by, well_formed, taking, standing_of, list_of}
+use Rattle.collector.specs.declared.Status.{Status}
 use Rattle.collector.specs.Demand.{Call, AllBytes, Keeper, made}
 use Rattle.collector.specs.Parts.{Parts}
 use Rattle.collector.specs.declared.Collector.{Collector}
@@ -49,7 +50,7 @@ unfoldable pub taking_stored : Collector → ℕ → List ℕ → Outcome Collec
 taking_stored k i part = tested k (taking (parts_of k) i part >>= (λ c. accepted (knowing c)))
 
 -- where it stands
-abbrev pub standing_stored : Collector → Outcome Standing
+abbrev pub standing_stored : Collector → Outcome Status
 standing_stored k = tested k (standing_of (parts_of k))
 
 -- its list

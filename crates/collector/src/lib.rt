@@ -4,17 +4,17 @@
 
 ghost use Rattle.std.specs.Prelude.{◌+◌, ◌*◌, ◌≤◌, true, ◌≡◌, length, get_or};
 ghost use Rattle.std.proofs.Math.Seq.{paste};
+ghost use Rattle.base.specs.Refusal.{said};
 ghost use Rattle.base.specs.Verdict.{Gives};
 ghost use Rattle.base.specs.Written.{Writes};
-ghost use Rattle.collector.specs.Collector.{capacity, held, last_index, lowest, part_length, parts, put, said_status, stands_at, well_formed};
+ghost use Rattle.collector.specs.Collector.{capacity, held, last_index, lowest, part_length, parts, put, stands_at, well_formed};
 ghost use Rattle.collector.specs.Shape.{Judged, JudgedStored, shape_of};
 ghost use Rattle.collector.specs.Stored.{fresh_stored, knowing, known_length, collector_of, list_stored, standing_stored, taking_stored};
 
 use crate::known::{ended, unheard_from};
 use crate::shape::{Shape, length_by, marks_fit, shape_of, shape_with, well_stored};
 use base::refusal::Refusal;
-use base::verdict::Verdict;
-use base::written::{Written, place};
+use base::written::place;
 
 mod known;
 mod shape;
@@ -32,24 +32,22 @@ pub struct Collector {
 
 #[derive(Drop)]
 pub struct Answered {
-    pub verdict: Verdict,
+    pub verdict: Result<(), Refusal>,
     pub collector: Collector,
 }
 
-// Complete, with the list's length; not, with the lowest unheard index; refused 9.
+// Complete, with the list's length; not, with the lowest unheard index.
 #[derive(Drop)]
 pub enum Status {
     Complete(usize),
     Missing(u8),
-    NoForm,
 }
 
-// What is to be done with an answer.
+// What is to be done with an answer that is not refused.
 #[derive(Drop)]
 enum Judgement {
     Store,
     Keep,
-    Refuse(Refusal),
 }
 
 // An array by value has its length, one behind a reference has it by a copy, which the compiler drops.
@@ -83,42 +81,54 @@ fn stands_at(bytes: &[u8], at: usize, part: &[u8]) -> bool
 }
 
 // Of parts that passed the test.
-fn judge_parts(bytes: &[u8], marks: &[u8], shape: Shape, index: u8, response: &[u8]) -> Judgement
+fn judge_parts(
+    bytes: &[u8],
+    marks: &[u8],
+    shape: Shape,
+    index: u8,
+    response: &[u8],
+) -> Result<Judgement, Refusal>
     requires bytes_len { (length bytes.now ≡ capacity) × (length marks.now ≡ parts) }
     requires shape_value { (shape ≡ shape_of marks.now) × (well_formed (held bytes.now marks.now) ≡ true) }
     ensures { Judged (held bytes.now marks.now) index response.now result }
 {
     if Collector::LAST_INDEX < index {
-        return Judgement::Refuse(Refusal::BadIndex);
+        return Err(Refusal::BadIndex);
     }
     if Collector::PART < response.len() {
-        return Judgement::Refuse(Refusal::TooMuchData);
+        return Err(Refusal::TooMuchData);
     }
     let heard = marks[index as usize];
     let mark = (response.len() + 1) as u8;
     if heard == 0 {
         if marks_fit(shape_with(shape, index, mark)) {
-            return Judgement::Store;
+            return Ok(Judgement::Store);
         }
-        return Judgement::Refuse(Refusal::Disagrees);
+        return Err(Refusal::Disagrees);
     }
     if heard != mark {
-        return Judgement::Refuse(Refusal::Disagrees);
+        return Err(Refusal::Disagrees);
     }
     if stands_at(bytes, start(index), response) {
-        return Judgement::Keep;
+        return Ok(Judgement::Keep);
     }
-    Judgement::Refuse(Refusal::Disagrees)
+    Err(Refusal::Disagrees)
 }
 
 // Reads only: the arrays of a refused answer are never written.
-fn judge(bytes: &[u8], marks: &[u8], known: &[u8], index: u8, response: &[u8]) -> Judgement
+fn judge(
+    bytes: &[u8],
+    marks: &[u8],
+    known: &[u8],
+    index: u8,
+    response: &[u8],
+) -> Result<Judgement, Refusal>
     requires { (length bytes.now ≡ capacity) × ((length marks.now ≡ parts) × (length known.now ≡ known_length)) }
     ensures { JudgedStored (collector_of bytes.now marks.now known.now) index response.now result }
 {
     let shape = shape_of(marks);
     if !well_stored(bytes, marks, known, shape) {
-        return Judgement::Refuse(Refusal::NoForm);
+        return Err(Refusal::NoForm);
     }
     judge_parts(bytes, marks, shape, index, response)
 }
@@ -153,19 +163,15 @@ pub fn answer_in(
     known: &mut [u8; Collector::KNOWN],
     index: u8,
     response: &[u8],
-) -> Verdict
+) -> Result<(), Refusal>
     ensures { Gives (taking_stored (collector_of bytes.old marks.old known.old) index response.now) (collector_of bytes.old marks.old known.old) result (collector_of bytes.new marks.new known.new) }
 {
     lengths(*bytes, *marks, *known);
-    let judgement = judge(bytes, marks, known, index, response);
-    match judgement {
-        Judgement::Store => {
-            store(bytes, marks, known, index, response);
-            Verdict::Accepted
-        }
-        Judgement::Keep => Verdict::Accepted,
-        Judgement::Refuse(refusal) => Verdict::Refused(refusal),
+    match judge(bytes, marks, known, index, response)? {
+        Judgement::Store => store(bytes, marks, known, index, response),
+        Judgement::Keep => {}
     }
+    Ok(())
 }
 
 // What is stored answers, behind the test.
@@ -173,18 +179,18 @@ pub fn status_in(
     bytes: &[u8; Collector::CAPACITY],
     marks: &[u8; Collector::PARTS],
     known: &[u8; Collector::KNOWN],
-) -> Status
-    ensures { said_status result ≡ standing_stored (collector_of bytes.now marks.now known.now) }
+) -> Result<Status, Refusal>
+    ensures { said result ≡ standing_stored (collector_of bytes.now marks.now known.now) }
 {
     lengths(*bytes, *marks, *known);
     let shape = shape_of(marks);
     if !well_stored(bytes, marks, known, shape) {
-        return Status::NoForm;
+        return Err(Refusal::NoForm);
     }
     if known[1] == 1 {
-        return Status::Complete(length_by(marks, shape));
+        return Ok(Status::Complete(length_by(marks, shape)));
     }
-    Status::Missing(known[0])
+    Ok(Status::Missing(known[0]))
 }
 
 // The list, once it is complete, at the start of out.
@@ -193,22 +199,17 @@ pub fn list_in(
     marks: &[u8; Collector::PARTS],
     known: &[u8; Collector::KNOWN],
     out: &mut [u8],
-) -> Written
+) -> Result<usize, Refusal>
     ensures { Writes (list_stored (collector_of bytes.now marks.now known.now)) result out.old out.new }
 {
-    let status = status_in(bytes, marks, known);
-    match status {
-        Status::Complete(length) => {
-            let all = &bytes[..];
-            place(&all[0..length], out)
-        }
-        Status::Missing(index) => Written::Refused(Refusal::Incomplete(index)),
-        Status::NoForm => Written::Refused(Refusal::NoForm),
+    match status_in(bytes, marks, known)? {
+        Status::Complete(length) => place(&bytes[..length], out),
+        Status::Missing(index) => Err(Refusal::Incomplete(index)),
     }
 }
 
 // A lent collector takes an answer by the step by value.
-pub fn answer_lent(collector: &mut Collector, index: u8, response: &[u8]) -> Verdict
+pub fn answer_lent(collector: &mut Collector, index: u8, response: &[u8]) -> Result<(), Refusal>
     ensures { Gives (taking_stored collector.old index response.now) collector.old result collector.new }
 {
     let answered = Collector::answer(*collector, index, response);
@@ -242,41 +243,31 @@ impl Collector {
         ensures { Gives (taking_stored self index response.now) self result.verdict result.collector }
     {
         let mut collector = self;
-        let mut marks = collector.marks;
-        let mut known = collector.known;
         let verdict = answer_in(
             &mut collector.bytes,
-            &mut marks,
-            &mut known,
+            &mut collector.marks,
+            &mut collector.known,
             index,
             response,
         );
-        let Verdict::Refused(_) = verdict else {
-            collector.marks = marks;
-            collector.known = known;
+        if verdict.is_ok() {
             return Answered { verdict, collector };
-        };
+        }
         Answered {
             verdict,
             collector: self,
         }
     }
 
-    pub fn status(self) -> Status
-        ensures { said_status result ≡ standing_stored self }
+    pub fn status(self) -> Result<Status, Refusal>
+        ensures { said result ≡ standing_stored self }
     {
-        let bytes = self.bytes;
-        let marks = self.marks;
-        let known = self.known;
-        status_in(&bytes, &marks, &known)
+        status_in(&self.bytes, &self.marks, &self.known)
     }
 
-    pub fn list(self, out: &mut [u8]) -> Written
+    pub fn list(self, out: &mut [u8]) -> Result<usize, Refusal>
         ensures { Writes (list_stored self) result out.old out.new }
     {
-        let bytes = self.bytes;
-        let marks = self.marks;
-        let known = self.known;
-        list_in(&bytes, &marks, &known, out)
+        list_in(&self.bytes, &self.marks, &self.known, out)
     }
 }
