@@ -1,9 +1,8 @@
 -- Any two outcomes that a public function's promise allows at the same arguments coincide.
 use mathlib.Core.Path.{refl}
-use Rattle.base.proofs.Said.{field_one}
+use Rattle.base.proofs.Said.{said_one}
 use Rattle.base.proofs.Unique.{Unique, both, writer}
 use Rattle.access.proofs as p
-use Rattle.access.proofs.Said.{access_one, command_one}
 
 pub channel_access_type_byte_unique : Unique p.get_channel_access.ChannelAccessType.byte.Kinds.ps p.get_channel_access.ChannelAccessType.byte.Kinds.r p.get_channel_access.ChannelAccessType.byte.Reads.Asked p.get_channel_access.ChannelAccessType.byte.Reads.Learnt
 channel_access_type_byte_unique κs a ok z z' w w' q q' = (both q q', refl)
@@ -18,16 +17,16 @@ pub get_channel_access_volatile_unique : Unique p.get_channel_access.GetChannelA
 get_channel_access_volatile_unique κs a ok z z' w w' q q' = (both q q', refl)
 
 pub get_channel_access_numbered_unique : Unique p.get_channel_access.GetChannelAccess.numbered.Kinds.ps p.get_channel_access.GetChannelAccess.numbered.Kinds.r p.get_channel_access.GetChannelAccess.numbered.Reads.Asked p.get_channel_access.GetChannelAccess.numbered.Reads.Learnt
-get_channel_access_numbered_unique κs a ok z z' w w' q q' = (command_one z z' (both q q'), refl)
+get_channel_access_numbered_unique κs a ok z z' w w' q q' = (said_one z z' (both q q'), refl)
 
 pub get_channel_access_write_unique : Unique p.get_channel_access.GetChannelAccess.write.Kinds.ps p.get_channel_access.GetChannelAccess.write.Kinds.r p.get_channel_access.GetChannelAccess.write.Reads.Asked p.get_channel_access.GetChannelAccess.write.Reads.Learnt
 get_channel_access_write_unique κs a ok z z' w w' q q' = writer 1 q q'
 
 pub get_channel_access_read_unique : Unique p.get_channel_access.GetChannelAccess.read.Kinds.ps p.get_channel_access.GetChannelAccess.read.Kinds.r p.get_channel_access.GetChannelAccess.read.Reads.Asked p.get_channel_access.GetChannelAccess.read.Reads.Learnt
-get_channel_access_read_unique κs a ok z z' w w' q q' = (command_one z z' (both q q'), refl)
+get_channel_access_read_unique κs a ok z z' w w' q q' = (said_one z z' (both q q'), refl)
 
 pub channel_access_parse_unique : Unique p.get_channel_access.ChannelAccess.parse.Kinds.ps p.get_channel_access.ChannelAccess.parse.Kinds.r p.get_channel_access.ChannelAccess.parse.Reads.Asked p.get_channel_access.ChannelAccess.parse.Reads.Learnt
-channel_access_parse_unique κs a ok z z' w w' q q' = (access_one z z' (both q q'), refl)
+channel_access_parse_unique κs a ok z z' w w' q q' = (said_one z z' (both q q'), refl)
 
 pub channel_access_is_disabled_unique : Unique p.get_channel_access.ChannelAccess.is_disabled.Kinds.ps p.get_channel_access.ChannelAccess.is_disabled.Kinds.r p.get_channel_access.ChannelAccess.is_disabled.Reads.Asked p.get_channel_access.ChannelAccess.is_disabled.Reads.Learnt
 channel_access_is_disabled_unique κs a ok z z' w w' q q' = (both q q', refl)
@@ -35,26 +34,26 @@ channel_access_is_disabled_unique κs a ok z z' w w' q q' = (both q q', refl)
 pub channel_access_write_unique : Unique p.get_channel_access.ChannelAccess.write.Kinds.ps p.get_channel_access.ChannelAccess.write.Kinds.r p.get_channel_access.ChannelAccess.write.Reads.Asked p.get_channel_access.ChannelAccess.write.Reads.Learnt
 channel_access_write_unique κs a ok z z' w w' q q' = writer 1 q q'
 
-pub channel_access_mode_from_unique : Unique p.get_channel_access.ChannelAccessMode.from.Kinds.ps p.get_channel_access.ChannelAccessMode.from.Kinds.r p.get_channel_access.ChannelAccessMode.from.Reads.Asked p.get_channel_access.ChannelAccessMode.from.Reads.Learnt
+pub channel_access_mode_from_unique : Unique p.get_channel_access.ChannelAccessModeFromU8.from.Kinds.ps p.get_channel_access.ChannelAccessModeFromU8.from.Kinds.r p.get_channel_access.ChannelAccessModeFromU8.from.Reads.Asked p.get_channel_access.ChannelAccessModeFromU8.from.Reads.Learnt
 channel_access_mode_from_unique κs a ok z z' w w' q q' = (both q q', refl)
 
-pub channel_access_mode_value_unique : Unique p.get_channel_access.ChannelAccessMode.value.Kinds.ps p.get_channel_access.ChannelAccessMode.value.Kinds.r p.get_channel_access.ChannelAccessMode.value.Reads.Asked p.get_channel_access.ChannelAccessMode.value.Reads.Learnt
+pub channel_access_mode_value_unique : Unique p.get_channel_access.U8FromChannelAccessMode.from.Kinds.ps p.get_channel_access.U8FromChannelAccessMode.from.Kinds.r p.get_channel_access.U8FromChannelAccessMode.from.Reads.Asked p.get_channel_access.U8FromChannelAccessMode.from.Reads.Learnt
 channel_access_mode_value_unique κs a ok z z' w w' q q' = (both q q', refl)
 
 pub channel_access_mode_field_unique : Unique p.get_channel_access.ChannelAccessMode.field.Kinds.ps p.get_channel_access.ChannelAccessMode.field.Kinds.r p.get_channel_access.ChannelAccessMode.field.Reads.Asked p.get_channel_access.ChannelAccessMode.field.Reads.Learnt
-channel_access_mode_field_unique κs a ok z z' w w' q q' = (field_one z z' (both q q'), refl)
+channel_access_mode_field_unique κs a ok z z' w w' q q' = (said_one z z' (both q q'), refl)
 
 pub channel_access_mode_text_unique : Unique p.get_channel_access.ChannelAccessMode.text.Kinds.ps p.get_channel_access.ChannelAccessMode.text.Kinds.r p.get_channel_access.ChannelAccessMode.text.Reads.Asked p.get_channel_access.ChannelAccessMode.text.Reads.Learnt
 channel_access_mode_text_unique κs a ok z z' w w' q q' = writer 1 q q'
 
-pub channel_privilege_level_from_unique : Unique p.get_channel_access.ChannelPrivilegeLevel.from.Kinds.ps p.get_channel_access.ChannelPrivilegeLevel.from.Kinds.r p.get_channel_access.ChannelPrivilegeLevel.from.Reads.Asked p.get_channel_access.ChannelPrivilegeLevel.from.Reads.Learnt
+pub channel_privilege_level_from_unique : Unique p.get_channel_access.ChannelPrivilegeLevelFromU8.from.Kinds.ps p.get_channel_access.ChannelPrivilegeLevelFromU8.from.Kinds.r p.get_channel_access.ChannelPrivilegeLevelFromU8.from.Reads.Asked p.get_channel_access.ChannelPrivilegeLevelFromU8.from.Reads.Learnt
 channel_privilege_level_from_unique κs a ok z z' w w' q q' = (both q q', refl)
 
-pub channel_privilege_level_value_unique : Unique p.get_channel_access.ChannelPrivilegeLevel.value.Kinds.ps p.get_channel_access.ChannelPrivilegeLevel.value.Kinds.r p.get_channel_access.ChannelPrivilegeLevel.value.Reads.Asked p.get_channel_access.ChannelPrivilegeLevel.value.Reads.Learnt
+pub channel_privilege_level_value_unique : Unique p.get_channel_access.U8FromChannelPrivilegeLevel.from.Kinds.ps p.get_channel_access.U8FromChannelPrivilegeLevel.from.Kinds.r p.get_channel_access.U8FromChannelPrivilegeLevel.from.Reads.Asked p.get_channel_access.U8FromChannelPrivilegeLevel.from.Reads.Learnt
 channel_privilege_level_value_unique κs a ok z z' w w' q q' = (both q q', refl)
 
 pub channel_privilege_level_field_unique : Unique p.get_channel_access.ChannelPrivilegeLevel.field.Kinds.ps p.get_channel_access.ChannelPrivilegeLevel.field.Kinds.r p.get_channel_access.ChannelPrivilegeLevel.field.Reads.Asked p.get_channel_access.ChannelPrivilegeLevel.field.Reads.Learnt
-channel_privilege_level_field_unique κs a ok z z' w w' q q' = (field_one z z' (both q q'), refl)
+channel_privilege_level_field_unique κs a ok z z' w w' q q' = (said_one z z' (both q q'), refl)
 
 pub channel_privilege_level_text_unique : Unique p.get_channel_access.ChannelPrivilegeLevel.text.Kinds.ps p.get_channel_access.ChannelPrivilegeLevel.text.Kinds.r p.get_channel_access.ChannelPrivilegeLevel.text.Reads.Asked p.get_channel_access.ChannelPrivilegeLevel.text.Reads.Learnt
 channel_privilege_level_text_unique κs a ok z z' w w' q q' = writer 1 q q'

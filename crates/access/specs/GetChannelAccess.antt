@@ -4,12 +4,9 @@ use Rattle.base.specs.Choice.{◌<?◌, ◌=?◌}
 use Rattle.base.specs.Connection.{channel_of, channel_field}
 use Rattle.base.specs.Field.{byte, bits, flag, raised, within}
 use Rattle.base.specs.Outcome.{Outcome, accepted, refused, ◌>>=◌}
-use Rattle.base.specs.Refusal.{refusal}
 use Rattle.base.specs.Request.{request}
 use Rattle.base.specs.Text.{ascii, coded}
 use Rattle.base.specs.declared.connection.Channel.{Channel}
-use Rattle.access.specs.declared.get_channel_access.AccessAnswer.{AccessAnswer}
-use Rattle.access.specs.declared.get_channel_access.AccessAnswer.TheVariants.{Access, NotEnoughData}
 use Rattle.access.specs.declared.get_channel_access.ChannelAccess.{ChannelAccess}
 use Rattle.access.specs.declared.get_channel_access.ChannelAccessMode.{ChannelAccessMode}
 use Rattle.access.specs.declared.get_channel_access.ChannelAccessMode.TheVariants as Mode
@@ -17,19 +14,7 @@ use Rattle.access.specs.declared.get_channel_access.ChannelAccessType.{ChannelAc
 use Rattle.access.specs.declared.get_channel_access.ChannelAccessType.TheVariants.{NonVolatile, Volatile}
 use Rattle.access.specs.declared.get_channel_access.ChannelPrivilegeLevel.{ChannelPrivilegeLevel}
 use Rattle.access.specs.declared.get_channel_access.ChannelPrivilegeLevel.TheVariants as Level
-use Rattle.access.specs.declared.get_channel_access.CommandAnswer.{CommandAnswer}
-use Rattle.access.specs.declared.get_channel_access.CommandAnswer.TheVariants.{Command, Refused}
 use Rattle.access.specs.declared.get_channel_access.GetChannelAccess.{GetChannelAccess}
-
--- each case's outcome
-abbrev pub said_command : CommandAnswer → Outcome GetChannelAccess
-said_command (Command command) = accepted command
-said_command (Refused r) = refusal r
-
--- each case's outcome: 1 NotEnoughData
-abbrev pub said_access : AccessAnswer → Outcome ChannelAccess
-said_access (Access access) = accepted access
-said_access NotEnoughData = refused 1 []
 
 -- The request: byte 0 is the channel, byte 1 which settings.
 

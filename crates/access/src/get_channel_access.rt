@@ -1,15 +1,15 @@
 // Get Channel Access, App 41h: IPMI 2.0, Table 22-28; the Rust's get_channel_access.rs. `text` is its Display.
 ghost use Rattle.std.specs.Prelude.{◌≡◌};
-ghost use Rattle.base.specs.Field.{said_field};
-ghost use Rattle.access.specs.GetChannelAccess.{access_bytes, access_of, command, command_bytes, command_for, command_of, is_disabled, limit_field, limit_of, limit_text, limit_value, mode_field, mode_of, mode_text, mode_value, said_access, said_command, type_byte};
+ghost use Rattle.access.specs.GetChannelAccess.{access_bytes, access_of, command, command_bytes, command_for, command_of, is_disabled, limit_field, limit_of, limit_text, limit_value, mode_field, mode_of, mode_text, mode_value, type_byte};
 ghost use Rattle.base.specs.Outcome.{accepted};
+ghost use Rattle.base.specs.Refusal.{said};
 ghost use Rattle.base.specs.Written.{Writes};
 
-use base::connection::{Channel, ChannelAnswer};
-use base::field::{FieldAnswer, bits, flag, within};
+use base::connection::Channel;
+use base::field::{bits, flag, within};
 use base::refusal::Refusal;
 use base::text::coded;
-use base::written::{Written, place};
+use base::written::place;
 
 #[derive(Clone, Copy)]
 pub enum ChannelAccessType {
@@ -32,13 +32,6 @@ impl ChannelAccessType {
 pub struct GetChannelAccess {
     pub channel: Channel,
     pub access_type: ChannelAccessType,
-}
-
-// Refused 6 where it is made for a number, 10 where it is read.
-#[derive(Drop)]
-pub enum CommandAnswer {
-    Command(GetChannelAccess),
-    Refused(Refusal),
 }
 
 impl GetChannelAccess {
@@ -66,41 +59,33 @@ impl GetChannelAccess {
     }
 
     // For a channel that is given as a number.
-    pub fn numbered(number: u8, access_type: ChannelAccessType) -> CommandAnswer
-        ensures { said_command result ≡ command_for number access_type }
+    pub fn numbered(number: u8, access_type: ChannelAccessType) -> Result<Self, Refusal>
+        ensures { said result ≡ command_for number access_type }
     {
-        let ChannelAnswer::Channel(channel) = Channel::new(number) else {
-            return CommandAnswer::Refused(Refusal::NoChannel);
-        };
-        CommandAnswer::Command(Self::new(channel, access_type))
+        Ok(Self::new(Channel::new(number)?, access_type))
     }
 
     // The request's data.
-    pub fn write(self, out: &mut [u8]) -> Written
+    pub fn write(self, out: &mut [u8]) -> Result<usize, Refusal>
         ensures { Writes (command_bytes self) result out.old out.new }
     {
-        let channel = self.channel;
-        let access_type = self.access_type;
-        let FieldAnswer::Number(number) = channel.field() else {
-            return Written::Refused(Refusal::NoForm);
-        };
-        place(&[number, access_type.byte()], out)
+        place(&[self.channel.field()?, self.access_type.byte()], out)
     }
 
     // The command whose request this is: takes only what some command writes.
-    pub fn read(request: &[u8]) -> CommandAnswer
-        ensures { said_command result ≡ command_of request.now }
+    pub fn read(request: &[u8]) -> Result<Self, Refusal>
+        ensures { said result ≡ command_of request.now }
     {
         if request.len() != 2 {
-            return CommandAnswer::Refused(Refusal::NotARequest);
+            return Err(Refusal::NotARequest);
         }
-        let ChannelAnswer::Channel(channel) = Channel::new(request[0]) else {
-            return CommandAnswer::Refused(Refusal::NotARequest);
+        let Ok(channel) = Channel::new(request[0]) else {
+            return Err(Refusal::NotARequest);
         };
         match request[1] {
-            0x40 => CommandAnswer::Command(Self::non_volatile(channel)),
-            0x80 => CommandAnswer::Command(Self::volatile(channel)),
-            _ => CommandAnswer::Refused(Refusal::NotARequest),
+            0x40 => Ok(Self::non_volatile(channel)),
+            0x80 => Ok(Self::volatile(channel)),
+            _ => Err(Refusal::NotARequest),
         }
     }
 }
@@ -114,22 +99,16 @@ pub struct ChannelAccess {
     pub privilege_level_limit: ChannelPrivilegeLevel,
 }
 
-#[derive(Drop)]
-pub enum AccessAnswer {
-    Access(ChannelAccess),
-    NotEnoughData,
-}
-
 impl ChannelAccess {
     // Bits 5, 4 and 3 say what is DISABLED.
-    pub fn parse(response: &[u8]) -> AccessAnswer
-        ensures { said_access result ≡ access_of response.now }
+    pub fn parse(response: &[u8]) -> Result<Self, Refusal>
+        ensures { said result ≡ access_of response.now }
     {
         if response.len() < 2 {
-            return AccessAnswer::NotEnoughData;
+            return Err(Refusal::NotEnoughData);
         }
         let first = response[0];
-        AccessAnswer::Access(ChannelAccess {
+        Ok(ChannelAccess {
             access_mode: ChannelAccessMode::from(bits(first, 0, 3)),
             alerting_disabled: flag(first, 5),
             per_msg_auth_disabled: flag(first, 4),
@@ -141,28 +120,15 @@ impl ChannelAccess {
     pub fn is_disabled(self) -> bool
         ensures { result ≡ is_disabled self.access_mode }
     {
-        let mode = self.access_mode;
-        match mode {
-            ChannelAccessMode::Disabled => true,
-            ChannelAccessMode::PreBootOnly => false,
-            ChannelAccessMode::AlwaysAvailable => false,
-            ChannelAccessMode::Shared => false,
-            ChannelAccessMode::Unknown(_) => false,
-        }
+        matches!(self.access_mode, ChannelAccessMode::Disabled)
     }
 
     // The response's data.
-    pub fn write(self, out: &mut [u8]) -> Written
+    pub fn write(self, out: &mut [u8]) -> Result<usize, Refusal>
         ensures { Writes (access_bytes self) result out.old out.new }
     {
-        let mode = self.access_mode;
-        let limit = self.privilege_level_limit;
-        let FieldAnswer::Number(mode) = mode.field() else {
-            return Written::Refused(Refusal::NoForm);
-        };
-        let FieldAnswer::Number(limit) = limit.field() else {
-            return Written::Refused(Refusal::NoForm);
-        };
+        let mode = self.access_mode.field()?;
+        let limit = self.privilege_level_limit.field()?;
         let first = mode
             | (self.user_level_auth_disabled as u8) << 3
             | (self.per_msg_auth_disabled as u8) << 4
@@ -181,10 +147,10 @@ pub enum ChannelAccessMode {
     Unknown(u8),
 }
 
-impl ChannelAccessMode {
-    pub fn from(value: u8) -> Self
-        ensures { result ≡ mode_of value }
-    {
+impl From<u8> for ChannelAccessMode {
+    ghost from_gives = { λ value mode. mode ≡ mode_of value };
+
+    fn from(value: u8) -> Self {
         match value {
             0 => ChannelAccessMode::Disabled,
             1 => ChannelAccessMode::PreBootOnly,
@@ -193,11 +159,13 @@ impl ChannelAccessMode {
             _ => ChannelAccessMode::Unknown(value),
         }
     }
+}
 
-    pub fn value(self) -> u8
-        ensures { result ≡ mode_value self }
-    {
-        match self {
+impl From<ChannelAccessMode> for u8 {
+    ghost from_gives = { λ mode value. value ≡ mode_value mode };
+
+    fn from(mode: ChannelAccessMode) -> u8 {
+        match mode {
             ChannelAccessMode::Disabled => 0,
             ChannelAccessMode::PreBootOnly => 1,
             ChannelAccessMode::AlwaysAvailable => 2,
@@ -205,18 +173,20 @@ impl ChannelAccessMode {
             ChannelAccessMode::Unknown(value) => value,
         }
     }
+}
 
+impl ChannelAccessMode {
     // The mode's number in a message.
-    pub fn field(self) -> FieldAnswer
-        ensures { said_field result ≡ mode_field self }
+    pub fn field(self) -> Result<u8, Refusal>
+        ensures { said result ≡ mode_field self }
     {
         match self {
             ChannelAccessMode::Unknown(value) => within(value, 4, 7),
-            _ => FieldAnswer::Number(self.value()),
+            _ => Ok(self.into()),
         }
     }
 
-    pub fn text(self, out: &mut [u8]) -> Written
+    pub fn text(self, out: &mut [u8]) -> Result<usize, Refusal>
         ensures { Writes (accepted (mode_text self)) result out.old out.new }
     {
         match self {
@@ -240,10 +210,10 @@ pub enum ChannelPrivilegeLevel {
     Unknown(u8),
 }
 
-impl ChannelPrivilegeLevel {
-    pub fn from(value: u8) -> Self
-        ensures { result ≡ limit_of value }
-    {
+impl From<u8> for ChannelPrivilegeLevel {
+    ghost from_gives = { λ value limit. limit ≡ limit_of value };
+
+    fn from(value: u8) -> Self {
         match value {
             0 => ChannelPrivilegeLevel::Reserved,
             1 => ChannelPrivilegeLevel::Callback,
@@ -254,11 +224,13 @@ impl ChannelPrivilegeLevel {
             _ => ChannelPrivilegeLevel::Unknown(value),
         }
     }
+}
 
-    pub fn value(self) -> u8
-        ensures { result ≡ limit_value self }
-    {
-        match self {
+impl From<ChannelPrivilegeLevel> for u8 {
+    ghost from_gives = { λ limit value. value ≡ limit_value limit };
+
+    fn from(limit: ChannelPrivilegeLevel) -> u8 {
+        match limit {
             ChannelPrivilegeLevel::Reserved => 0,
             ChannelPrivilegeLevel::Callback => 1,
             ChannelPrivilegeLevel::User => 2,
@@ -268,18 +240,20 @@ impl ChannelPrivilegeLevel {
             ChannelPrivilegeLevel::Unknown(value) => value,
         }
     }
+}
 
+impl ChannelPrivilegeLevel {
     // The limit's number in a message.
-    pub fn field(self) -> FieldAnswer
-        ensures { said_field result ≡ limit_field self }
+    pub fn field(self) -> Result<u8, Refusal>
+        ensures { said result ≡ limit_field self }
     {
         match self {
             ChannelPrivilegeLevel::Unknown(value) => within(value, 6, 15),
-            _ => FieldAnswer::Number(self.value()),
+            _ => Ok(self.into()),
         }
     }
 
-    pub fn text(self, out: &mut [u8]) -> Written
+    pub fn text(self, out: &mut [u8]) -> Result<usize, Refusal>
         ensures { Writes (accepted (limit_text self)) result out.old out.new }
     {
         match self {
