@@ -5,26 +5,11 @@ use Rattle.base.specs.Connection.{channel_of, channel_field}
 use Rattle.base.specs.Field.{Bytes, byte, bits, within}
 use Rattle.base.specs.Little.{little, little_bytes}
 use Rattle.base.specs.Outcome.{Outcome, accepted, refused, ◌>>=◌, faults_as}
-use Rattle.base.specs.Refusal.{refusal}
 use Rattle.base.specs.Request.{request}
 use Rattle.base.specs.declared.connection.Channel.{Channel}
 use Rattle.media.specs.Media.{medium_field, medium_of, protocol_field, protocol_of, session_field, session_of}
 use Rattle.info.specs.declared.get_channel_info.ChannelInfo.{ChannelInfo}
-use Rattle.info.specs.declared.get_channel_info.CommandAnswer.{CommandAnswer}
-use Rattle.info.specs.declared.get_channel_info.CommandAnswer.TheVariants.{Command, Refused}
 use Rattle.info.specs.declared.get_channel_info.GetChannelInfo.{GetChannelInfo}
-use Rattle.info.specs.declared.get_channel_info.InfoAnswer.{InfoAnswer}
-use Rattle.info.specs.declared.get_channel_info.InfoAnswer.TheVariants.{Info, NotEnoughData}
-
--- each case's outcome
-abbrev pub said_command : CommandAnswer → Outcome GetChannelInfo
-said_command (Command command) = accepted command
-said_command (Refused r) = refusal r
-
--- each case's outcome: 1 NotEnoughData
-abbrev pub said_info : InfoAnswer → Outcome ChannelInfo
-said_info (Info info) = accepted info
-said_info NotEnoughData = refused 1 []
 
 -- The request: one byte, the channel.
 
