@@ -3,7 +3,6 @@ use Rattle.std.specs.Prelude.{ℕ, ◌+◌, ◌*◌, ◌^◌, Bool, true, false,
 use Rattle.base.specs.Connection.{channel_of, channel_field}
 use Rattle.base.specs.Field.{byte, bits, within}
 use Rattle.base.specs.Outcome.{Outcome, accepted, refused, ◌>>=◌}
-use Rattle.base.specs.Refusal.{refusal}
 use Rattle.base.specs.Request.{request}
 use Rattle.base.specs.declared.connection.Channel.{Channel}
 use Rattle.access.specs.GetChannelAccess.{access_of, access_bytes}
@@ -13,35 +12,7 @@ use Rattle.access.specs.declared.get_channel_access.ChannelAccessType.TheVariant
 use Rattle.set_access.specs.declared.set_channel_access.AccessPair.{AccessPair}
 use Rattle.set_access.specs.declared.set_channel_access.AccessPair.TheVariants.{Leave, NonVolatile, Volatile, Reserved}
 use Rattle.set_access.specs.declared.set_channel_access.ChannelSettings.{ChannelSettings}
-use Rattle.set_access.specs.declared.set_channel_access.CommandAnswer.{CommandAnswer}
-use Rattle.set_access.specs.declared.set_channel_access.CommandAnswer.TheVariants.{Command, Refused}
-use Rattle.set_access.specs.declared.set_channel_access.PairAnswer.{PairAnswer}
-use Rattle.set_access.specs.declared.set_channel_access.PairAnswer.TheVariants as Pair
-use Rattle.set_access.specs.declared.set_channel_access.PartsAnswer.{PartsAnswer}
-use Rattle.set_access.specs.declared.set_channel_access.PartsAnswer.TheVariants as Parts
 use Rattle.set_access.specs.declared.set_channel_access.SetChannelAccess.{SetChannelAccess}
-use Rattle.set_access.specs.declared.set_channel_access.SettingsAnswer.{SettingsAnswer}
-use Rattle.set_access.specs.declared.set_channel_access.SettingsAnswer.TheVariants as Settings
-
--- each case's outcome
-abbrev pub said_command : CommandAnswer → Outcome SetChannelAccess
-said_command (Command command) = accepted command
-said_command (Refused r) = refusal r
-
--- each case's outcome: 9 NoForm
-abbrev pub said_settings : SettingsAnswer → Outcome ChannelSettings
-said_settings (Settings.Settings settings) = accepted settings
-said_settings Settings.NoForm = refused 9 []
-
--- each case's outcome: 9 NoForm
-abbrev pub said_parts : PartsAnswer → Outcome (List ℕ)
-said_parts (Parts.Parts parts) = accepted (parts.mode ∷ parts.limit ∷ [])
-said_parts Parts.NoForm = refused 9 []
-
--- each case's outcome: 9 NoForm
-abbrev pub said_pair : PairAnswer → Outcome AccessPair
-said_pair (Pair.Pair pair) = accepted pair
-said_pair Pair.NoForm = refused 9 []
 
 -- The pairs, bits 7:6 of bytes 1 and 2.
 

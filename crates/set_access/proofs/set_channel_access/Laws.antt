@@ -16,9 +16,10 @@ use mir.Val.{bool_byte}
 use Rattle.base.specs.Connection.{channel_of, channel_field}
 use Rattle.base.specs.Field.{byte, bits, flag, within, Bytes}
 use Rattle.base.specs.Outcome.{Outcome, accepted, refused, ◌>>=◌}
+use Rattle.base.specs.Refusal.{refusal}
 use Rattle.base.specs.Written.{Writes, written, length_of}
 use Rattle.base.specs.declared.refusal.Refusal.{Refusal}
-use Rattle.base.specs.declared.written.Written.TheVariants.{Length, Refused}
+use Rattle.std.specs.Prelude.{Err, Ok}
 use Rattle.base.proofs.Outcome.{apart, steps, Only, only_steps, ranged}
 use Rattle.base.proofs.Rows.{NoForm, nine, Strict, strict}
 use Rattle.base.proofs.connection.Laws.{begins_only, channel_iff, channel_small}
@@ -70,21 +71,24 @@ pub set_pair : (pair x : ℕ) → pair < 3 → x < 64 → bit_or x (pair * 64 % 
 set_pair pair x h p = rw (shl_exact {a = pair} 2 6 8 (omega arith) (lit≤ tt)) (or_shifted_r pair 6 x p ∙ add_comm (pair * 2 ^ 6) x)
 
 -- what the response's writer leaves in two bytes, and what it says where it leaves nothing
-pub shown : (a : ChannelAccess) {n : ℕ} {after : List ℕ} → Writes (access_bytes a) (Length n) (0 ∷ 0 ∷ []) after → access_bytes a ≡ accepted after
+pub shown : (a : ChannelAccess) {n : ℕ} {after : List ℕ} → Writes (access_bytes a) (Ok n) (0 ∷ 0 ∷ []) after → access_bytes a ≡ accepted after
 unfolding written length_of
 shown a w = go (access_bytes a) (λ s e. (access_two a e).0) w
   where
-    go : (x : Outcome (List ℕ)) → ((s : List ℕ) → x ≡ accepted s → length s ≡ 2) → {n : ℕ} {after : List ℕ} → Writes x (Length n) (0 ∷ 0 ∷ []) after → x ≡ accepted after
+    go : (x : Outcome (List ℕ)) → ((s : List ℕ) → x ≡ accepted s → length s ≡ 2) → {n : ℕ} {after : List ℕ} → Writes x (Ok n) (0 ∷ 0 ∷ []) after → x ≡ accepted after
     go (accepted s) two w = rw (filled w (two s refl))
     go (refused n v) two w = absurd (apart (sym w.answers))
 
-pub not_shown : (a : ChannelAccess) {r : Refusal} {after : List ℕ} → Writes (access_bytes a) (Refused r) (0 ∷ 0 ∷ []) after → access_bytes a ≡ refused 9 []
+pub not_shown : (a : ChannelAccess) {r : Refusal} {after : List ℕ} → Writes (access_bytes a) (Err r) (0 ∷ 0 ∷ []) after → access_bytes a ≡ refusal r
 unfolding written length_of
-not_shown a w = go (access_bytes a) (λ s e. (access_two a e).0) (access_only a) w
+not_shown a w = go (access_bytes a) (λ s e. (access_two a e).0) w
   where
-    go : (x : Outcome (List ℕ)) → ((s : List ℕ) → x ≡ accepted s → length s ≡ 2) → Only 9 x → {r : Refusal} {after : List ℕ} → Writes x (Refused r) (0 ∷ 0 ∷ []) after → x ≡ refused 9 []
-    go (accepted s) two o w = absurd (apart (rw (two s refl) at w.answers))
-    go (refused n v) two o w = sym o
+    alike : (r : Refusal) {n : ℕ} {v : List ℕ} → ◌≡◌ {A = Outcome ℕ} (refusal r) (refused n v) → ◌≡◌ {A = Outcome (List ℕ)} (refused n v) (refusal r)
+    alike r e = cc
+
+    go : (x : Outcome (List ℕ)) → ((s : List ℕ) → x ≡ accepted s → length s ≡ 2) → {r : Refusal} {after : List ℕ} → Writes x (Err r) (0 ∷ 0 ∷ []) after → x ≡ refusal r
+    go (accepted s) two w = absurd (apart (rw (two s refl) at w.answers))
+    go (refused n v) two {r} w = alike r w.answers
 
 -- all bytes behind the first, as the reader cuts them off
 pub rest : (s : List ℕ) {x : Outcome ChannelAccess} → x ≡ access_of (take (length s - 1) (drop 1 s)) → x ≡ access_of (drop 1 s)

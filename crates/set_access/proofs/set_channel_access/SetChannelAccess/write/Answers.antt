@@ -1,10 +1,14 @@
-use Rattle.base.specs.declared.refusal.Refusal.TheVariants.{NoForm}
+use mathlib.Core.Path.{◌≡◌}
+use Rattle.std.proofs.Common.{Err, rules}
 use Rattle.base.proofs.written.Laws.{refusing}
 use Rattle.set_access.proofs.set_channel_access.SetChannelAccess.write.Goals as goal
 
-pub returns-in_default : goal.returns-in_default
-returns-in_default c = refusing NoForm c.args.out.now (rw (← c.field.ensures, c.in_default.is))
+pub returns-in_err-number : goal.returns-in_err-number
+returns-in_err-number c =
+    let e : c.from_residual.result ≡ Err c.in_err-number.field-0.0 = search rules in
+    rw e (refusing c.in_err-number.field-0.0 c.args.out.now (rw (← c.in_err-number.ensures)))
 
-pub returns-in_default-parts : goal.returns-in_default-parts
-returns-in_default-parts c =
-    refusing NoForm c.args.out.now (rw (← c.field.ensures, c.in-Number.is, ← c.parts.ensures, c.in_default-parts.is))
+pub returns-in_err-parts : goal.returns-in_err-parts
+returns-in_err-parts c =
+    let e : c.from_residual-in_err-parts.result ≡ Err c.in_err-parts.field-0.0 = search rules in
+    rw e (refusing c.in_err-parts.field-0.0 c.args.out.now (rw (← c.in_ok-number.ensures, ← c.in_err-parts.ensures)))
