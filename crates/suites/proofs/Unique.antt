@@ -1,46 +1,44 @@
 -- Any two outcomes that a public function's promise allows at the same arguments coincide.
 use mathlib.Core.Path.{refl, ap}
-use Rattle.auth.proofs.Said.{authentication_one, confidentiality_one, integrity_one}
 use Rattle.base.proofs.Unique.{Unique, UniquePart, both, writer}
-use Rattle.base.proofs.verdict.Laws.{beside}
+use Rattle.base.proofs.Said.{said_one}
 use Rattle.suites.proofs as p
-use Rattle.suites.proofs.Said.{command_one, row_one, suite_one}
 
 pub cipher_suite_id_unique : Unique p.get_channel_cipher_suites.CipherSuite.id.Kinds.ps p.get_channel_cipher_suites.CipherSuite.id.Kinds.r p.get_channel_cipher_suites.CipherSuite.id.Reads.Asked p.get_channel_cipher_suites.CipherSuite.id.Reads.Learnt
 cipher_suite_id_unique κs a ok z z' w w' q q' = (both q q', refl)
 
 pub cipher_suite_from_id_unique : Unique p.get_channel_cipher_suites.CipherSuite.from_id.Kinds.ps p.get_channel_cipher_suites.CipherSuite.from_id.Kinds.r p.get_channel_cipher_suites.CipherSuite.from_id.Reads.Asked p.get_channel_cipher_suites.CipherSuite.from_id.Reads.Learnt
-cipher_suite_from_id_unique κs a ok z z' w w' q q' = (suite_one z z' (both q q'), refl)
+cipher_suite_from_id_unique κs a ok z z' w w' q q' = (both q q', refl)
 
 pub cipher_suite_from_suite_unique : Unique p.get_channel_cipher_suites.CipherSuite.from_suite.Kinds.ps p.get_channel_cipher_suites.CipherSuite.from_suite.Kinds.r p.get_channel_cipher_suites.CipherSuite.from_suite.Reads.Asked p.get_channel_cipher_suites.CipherSuite.from_suite.Reads.Learnt
-cipher_suite_from_suite_unique κs a ok z z' w w' q q' = (suite_one z z' (both q q'), refl)
+cipher_suite_from_suite_unique κs a ok z z' w w' q q' = (both q q', refl)
 
 pub cipher_suite_into_suite_unique : Unique p.get_channel_cipher_suites.CipherSuite.into_suite.Kinds.ps p.get_channel_cipher_suites.CipherSuite.into_suite.Kinds.r p.get_channel_cipher_suites.CipherSuite.into_suite.Reads.Asked p.get_channel_cipher_suites.CipherSuite.into_suite.Reads.Learnt
-cipher_suite_into_suite_unique κs a ok z z' w w' q q' = (row_one z z' (both q q'), refl)
+cipher_suite_into_suite_unique κs a ok z z' w w' q q' = (both q q', refl)
 
 pub cipher_suite_authentication_unique : Unique p.get_channel_cipher_suites.CipherSuite.authentication.Kinds.ps p.get_channel_cipher_suites.CipherSuite.authentication.Kinds.r p.get_channel_cipher_suites.CipherSuite.authentication.Reads.Asked p.get_channel_cipher_suites.CipherSuite.authentication.Reads.Learnt
-cipher_suite_authentication_unique κs a ok z z' w w' q q' = (authentication_one z z' (both q q'), refl)
+cipher_suite_authentication_unique κs a ok z z' w w' q q' = (both q q', refl)
 
 pub cipher_suite_integrity_unique : Unique p.get_channel_cipher_suites.CipherSuite.integrity.Kinds.ps p.get_channel_cipher_suites.CipherSuite.integrity.Kinds.r p.get_channel_cipher_suites.CipherSuite.integrity.Reads.Asked p.get_channel_cipher_suites.CipherSuite.integrity.Reads.Learnt
-cipher_suite_integrity_unique κs a ok z z' w w' q q' = (integrity_one z z' (both q q'), refl)
+cipher_suite_integrity_unique κs a ok z z' w w' q q' = (both q q', refl)
 
 pub cipher_suite_confidentiality_unique : Unique p.get_channel_cipher_suites.CipherSuite.confidentiality.Kinds.ps p.get_channel_cipher_suites.CipherSuite.confidentiality.Kinds.r p.get_channel_cipher_suites.CipherSuite.confidentiality.Reads.Asked p.get_channel_cipher_suites.CipherSuite.confidentiality.Reads.Learnt
-cipher_suite_confidentiality_unique κs a ok z z' w w' q q' = (confidentiality_one z z' (both q q'), refl)
+cipher_suite_confidentiality_unique κs a ok z z' w w' q q' = (both q q', refl)
 
 pub get_channel_cipher_suites_new_unique : Unique p.get_channel_cipher_suites.GetChannelCipherSuites.new.Kinds.ps p.get_channel_cipher_suites.GetChannelCipherSuites.new.Kinds.r p.get_channel_cipher_suites.GetChannelCipherSuites.new.Reads.Asked p.get_channel_cipher_suites.GetChannelCipherSuites.new.Reads.Learnt
-get_channel_cipher_suites_new_unique κs a ok z z' w w' q q' = (command_one z z' (both q q'), refl)
+get_channel_cipher_suites_new_unique κs a ok z z' w w' q q' = (said_one z z' (both q q'), refl)
 
 pub get_channel_cipher_suites_numbered_unique : Unique p.get_channel_cipher_suites.GetChannelCipherSuites.numbered.Kinds.ps p.get_channel_cipher_suites.GetChannelCipherSuites.numbered.Kinds.r p.get_channel_cipher_suites.GetChannelCipherSuites.numbered.Reads.Asked p.get_channel_cipher_suites.GetChannelCipherSuites.numbered.Reads.Learnt
-get_channel_cipher_suites_numbered_unique κs a ok z z' w w' q q' = (command_one z z' (both q q'), refl)
+get_channel_cipher_suites_numbered_unique κs a ok z z' w w' q q' = (said_one z z' (both q q'), refl)
 
 pub get_channel_cipher_suites_write_unique : Unique p.get_channel_cipher_suites.GetChannelCipherSuites.write.Kinds.ps p.get_channel_cipher_suites.GetChannelCipherSuites.write.Kinds.r p.get_channel_cipher_suites.GetChannelCipherSuites.write.Reads.Asked p.get_channel_cipher_suites.GetChannelCipherSuites.write.Reads.Learnt
 get_channel_cipher_suites_write_unique κs a ok z z' w w' q q' = writer 1 q q'
 
 pub get_channel_cipher_suites_read_unique : Unique p.get_channel_cipher_suites.GetChannelCipherSuites.read.Kinds.ps p.get_channel_cipher_suites.GetChannelCipherSuites.read.Kinds.r p.get_channel_cipher_suites.GetChannelCipherSuites.read.Reads.Asked p.get_channel_cipher_suites.GetChannelCipherSuites.read.Reads.Learnt
-get_channel_cipher_suites_read_unique κs a ok z z' w w' q q' = (command_one z z' (both q q'), refl)
+get_channel_cipher_suites_read_unique κs a ok z z' w w' q q' = (said_one z z' (both q q'), refl)
 
 pub channel_cipher_suites_parse_unique : Unique p.get_channel_cipher_suites.ChannelCipherSuites.parse.Kinds.ps p.get_channel_cipher_suites.ChannelCipherSuites.parse.Kinds.r p.get_channel_cipher_suites.ChannelCipherSuites.parse.Reads.Asked p.get_channel_cipher_suites.ChannelCipherSuites.parse.Reads.Learnt
-channel_cipher_suites_parse_unique κs a ok z z' w w' q q' = (beside (λ verdict suites. record { verdict = verdict; suites = suites }) q q', refl)
+channel_cipher_suites_parse_unique κs a ok z z' w w' q q' = (said_one z z' (both q q'), refl)
 
 pub channel_cipher_suites_write_unique : Unique p.get_channel_cipher_suites.ChannelCipherSuites.write.Kinds.ps p.get_channel_cipher_suites.ChannelCipherSuites.write.Kinds.r p.get_channel_cipher_suites.ChannelCipherSuites.write.Reads.Asked p.get_channel_cipher_suites.ChannelCipherSuites.write.Reads.Learnt
 channel_cipher_suites_write_unique κs a ok z z' w w' q q' = writer 1 q q'

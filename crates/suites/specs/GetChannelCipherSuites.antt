@@ -1,6 +1,5 @@
 -- Get Channel Cipher Suites. Document 01, "Suites"; IPMI 2.0, Table 22-17.
-use Rattle.std.specs.Prelude.{ℕ, zero, suc, ◌+◌, Bool, true, false, List, [], ◌∷◌, map, length, take, drop, if◌then◌else◌}
-use Rattle.std.proofs.Math.Option.{Option, none, some}
+use Rattle.std.specs.Prelude.{ℕ, zero, suc, ◌+◌, Bool, true, false, ◌&&◌, List, [], ◌∷◌, map, length, take, drop, if◌then◌else◌, Option, Some, None}
 use Rattle.auth.specs.Algorithms as Algorithms
 use Rattle.auth.specs.declared.algorithms.AuthenticationAlgorithm.{AuthenticationAlgorithm}
 use Rattle.auth.specs.declared.algorithms.ConfidentialityAlgorithm.{ConfidentialityAlgorithm}
@@ -10,28 +9,16 @@ use Rattle.base.specs.Connection.{channel_of, channel_field}
 use Rattle.base.specs.Field.{Array, byte, within}
 use Rattle.base.specs.Named.{named}
 use Rattle.base.specs.Outcome.{Outcome, accepted, refused, ◌>>=◌}
-use Rattle.base.specs.Refusal.{refusal}
 use Rattle.base.specs.Request.{request}
 use Rattle.base.specs.Written.{padded}
 use Rattle.base.specs.declared.connection.Channel.{Channel}
 use Rattle.collector.specs.Collector.{last_index, part_length}
 use Rattle.suites.specs.declared.get_channel_cipher_suites.ChannelCipherSuites.{ChannelCipherSuites}
 use Rattle.suites.specs.declared.get_channel_cipher_suites.CipherSuite.{CipherSuite}
-use Rattle.suites.specs.declared.get_channel_cipher_suites.CommandAnswer.{CommandAnswer}
-use Rattle.suites.specs.declared.get_channel_cipher_suites.CommandAnswer.TheVariants.{Command, Refused}
 use Rattle.suites.specs.declared.get_channel_cipher_suites.GetChannelCipherSuites.{GetChannelCipherSuites}
 use Rattle.suites.specs.declared.get_channel_cipher_suites.Iter.{Iter}
 use Rattle.suites.specs.declared.get_channel_cipher_suites.Row.{Row}
-use Rattle.suites.specs.declared.get_channel_cipher_suites.RowAnswer.{RowAnswer}
-use Rattle.suites.specs.declared.get_channel_cipher_suites.RowAnswer.TheVariants as RowAnswers
 use Rattle.suites.specs.declared.get_channel_cipher_suites.Step.{Step}
-use Rattle.suites.specs.declared.get_channel_cipher_suites.SuiteAnswer.{SuiteAnswer}
-use Rattle.suites.specs.declared.get_channel_cipher_suites.SuiteAnswer.TheVariants as SuiteAnswers
-
--- each case's outcome
-abbrev pub said_command : CommandAnswer → Outcome GetChannelCipherSuites
-said_command (Command command) = accepted command
-said_command (Refused r) = refusal r
 
 -- The request: the channel, payload type 0, and the index, bit 7 above it clear.
 
@@ -73,10 +60,6 @@ part bytes = record { data_length = length bytes; record_data = padded part_leng
 abbrev pub Typed : ChannelCipherSuites → Type 0
 Typed s = Array part_length s.record_data
 
--- stands beside a refusal
-abbrev pub no_suites : ChannelCipherSuites
-no_suites = part []
-
 -- 2 for a "suite response above 16 bytes"
 abbrev pub part_of : List ℕ → Outcome ChannelCipherSuites
 part_of response = if part_length <? length response then refused 2 [] else accepted (part response)
@@ -93,16 +76,6 @@ suites_bytes s =
     if zeros (drop s.data_length s.record_data) then accepted (take s.data_length s.record_data) else refused 9 []
 
 -- The suites.
-
--- each case's outcome; "answers none, which counts as accepted"
-abbrev pub said_suite : SuiteAnswer → Outcome (Option CipherSuite)
-said_suite (SuiteAnswers.Suite suite) = accepted (some suite)
-said_suite SuiteAnswers.Nothing = accepted none
-
--- each case's outcome; "answers none, which counts as accepted"
-abbrev pub said_row : RowAnswer → Outcome (Option Row)
-said_row (RowAnswers.Row row) = accepted (some row)
-said_row RowAnswers.Nothing = accepted none
 
 -- three algorithm numbers
 abbrev pub row : ℕ → ℕ → ℕ → Row
@@ -135,7 +108,7 @@ suites =
 
 -- "lookups by number": the row that stands at it
 abbrev pub row_of : ℕ → Option Row
-row_of n = named (map some suites) n
+row_of n = named (map Some suites) n
 
 -- a suite is its number
 abbrev pub suite : ℕ → CipherSuite
@@ -143,16 +116,16 @@ suite n = record { 0 = n }
 
 -- a number that a row stands at
 abbrev pub suite_of : ℕ → Option CipherSuite
-suite_of n = if n <? length suites then some (suite n) else none
+suite_of n = if n <? length suites then Some (suite n) else None
 
 -- the three numbers are equal
 abbrev pub same : Row → Row → Bool
-same a b = if a.authentication =? b.authentication then (if a.integrity =? b.integrity then a.confidentiality =? b.confidentiality else false) else false
+same a b = (a.authentication =? b.authentication) && ((a.integrity =? b.integrity) && (a.confidentiality =? b.confidentiality))
 
 -- the suite of the first row that is r, counted from n
 abbrev pub find : List Row → ℕ → Row → Option CipherSuite
-find [] n r = none
-find (x ∷ rows) n r = if same x r then some (suite n) else find rows (suc n) r
+find [] n r = None
+find (x ∷ rows) n r = if same x r then Some (suite n) else find rows (suc n) r
 
 -- "lookups .. by triple"
 abbrev pub suite_for : Row → Option CipherSuite
@@ -160,8 +133,8 @@ suite_for r = find suites 0 r
 
 -- what a column of the suite's row names
 abbrev pub column : {A : Type 0} → (Row → Option A) → Option Row → Option A
-column name none = none
-column name (some r) = name r
+column name None = None
+column name (Some r) = name r
 
 -- the first column
 abbrev pub authentication_of : ℕ → Option AuthenticationAlgorithm
@@ -187,16 +160,16 @@ algorithms = 3
 
 -- a step that gives nothing, where it ends, and whether the reading is then marked as failed
 abbrev pub nothing : ℕ → Bool → Step
-nothing position failed = record { answer = SuiteAnswers.Nothing; position = position; failed = failed }
+nothing position failed = record { answer = None; position = position; failed = failed }
 
 -- a step that gives a suite, and where it ends
 abbrev pub gives : CipherSuite → ℕ → Step
-gives s position = record { answer = SuiteAnswers.Suite s; position = position; failed = false }
+gives s position = record { answer = Some s; position = position; failed = false }
 
 -- "above 19 gives nothing ..; else three more bytes are taken, their contents unused, and the suite is given, or nothing if one is missing"
 abbrev pub step_suite : List ℕ → ℕ → Option CipherSuite → Step
-step_suite list at none = nothing (at + 1) false
-step_suite list at (some s) = if at + algorithms <? length list then gives s (at + algorithms + 1) else nothing (length list) false
+step_suite list at None = nothing (at + 1) false
+step_suite list at (Some s) = if at + algorithms <? length list then gives s (at + algorithms + 1) else nothing (length list) false
 
 -- "it takes the number byte; missing .. gives nothing, and the reading is NOT marked as failed"
 abbrev pub step_number : List ℕ → ℕ → Step
@@ -216,9 +189,9 @@ step_after zero list position failed = step_at list position failed
 step_after (suc k) list position failed = step_after k list (step_at list position failed).position (step_at list position failed).failed
 
 -- a suite's number and those that follow; no suite, and nothing follows
-abbrev pub before : SuiteAnswer → List ℕ → List ℕ
-before (SuiteAnswers.Suite s) numbers = s.0 ∷ numbers
-before SuiteAnswers.Nothing numbers = []
+abbrev pub before : Option CipherSuite → List ℕ → List ℕ
+before (Some s) numbers = s.0 ∷ numbers
+before None numbers = []
 
 -- the suites that at most k steps give, up to the first step that gives nothing
 unfoldable pub up_to : ℕ → List ℕ → ℕ → Bool → List ℕ
@@ -228,11 +201,6 @@ up_to (suc k) list position failed = before (step_at list position failed).answe
 -- "The list of a byte string": there are no more steps that give a suite than bytes
 abbrev pub numbers_of : List ℕ → List ℕ
 numbers_of list = up_to (length list) list 0 false
-
--- the step gave a suite
-abbrev pub is_suite : SuiteAnswer → Bool
-is_suite (SuiteAnswers.Suite s) = true
-is_suite SuiteAnswers.Nothing = false
 
 -- the step of a reader that holds the list, and the reader behind it
 abbrev pub step_of : Iter → Step

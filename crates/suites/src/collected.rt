@@ -5,7 +5,6 @@ ghost use Rattle.suites.specs.Collected.{suites_of};
 
 use crate::get_channel_cipher_suites::suite_numbers;
 use base::refusal::Refusal;
-use base::written::Written;
 use collector::{Collector, Status, status_in};
 
 // Once the list is complete, its suites' numbers at the start of out.
@@ -14,25 +13,17 @@ pub fn collected_suites_in(
     marks: &[u8; Collector::PARTS],
     known: &[u8; Collector::KNOWN],
     out: &mut [u8],
-) -> Written
+) -> Result<usize, Refusal>
     ensures { Writes (suites_of (collector_of bytes.now marks.now known.now)) result out.old out.new }
 {
-    let status = status_in(bytes, marks, known);
-    match status {
-        Status::Complete(length) => {
-            let all = &bytes[..];
-            suite_numbers(&all[0..length], out)
-        }
-        Status::Missing(index) => Written::Refused(Refusal::Incomplete(index)),
-        Status::NoForm => Written::Refused(Refusal::NoForm),
+    match status_in(bytes, marks, known)? {
+        Status::Complete(length) => suite_numbers(&bytes[..length], out),
+        Status::Missing(index) => Err(Refusal::Incomplete(index)),
     }
 }
 
-pub fn collected_suites(collector: Collector, out: &mut [u8]) -> Written
+pub fn collected_suites(collector: Collector, out: &mut [u8]) -> Result<usize, Refusal>
     ensures { Writes (suites_of collector) result out.old out.new }
 {
-    let bytes = collector.bytes;
-    let marks = collector.marks;
-    let known = collector.known;
-    collected_suites_in(&bytes, &marks, &known, out)
+    collected_suites_in(&collector.bytes, &collector.marks, &collector.known, out)
 }

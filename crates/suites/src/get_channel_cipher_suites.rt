@@ -1,21 +1,16 @@
 // Get Channel Cipher Suites, App 54h: IPMI 2.0, Table 22-17; the Rust's get_channel_cipher_suites.rs.
-ghost use Rattle.std.specs.Prelude.{◌≡◌, drop, length, take, false};
-ghost use Rattle.suites.specs.GetChannelCipherSuites.{Typed, authentication_of, command_bytes, command_for, command_of, command_on, confidentiality_of, integrity_of, is_suite, moved, no_suites, nothing, numbers_of, row_of, said_command, said_row, said_suite, same, step_at, step_number, step_of, suite_for, suite_of, suites_bytes, zeros, part_of};
-ghost use Rattle.auth.specs.Algorithms.{said_authentication, said_confidentiality, said_integrity};
+ghost use Rattle.std.specs.Prelude.{◌≡◌, drop, is_some, length, take, false};
+ghost use Rattle.suites.specs.GetChannelCipherSuites.{Typed, authentication_of, command_bytes, command_for, command_of, command_on, confidentiality_of, integrity_of, moved, nothing, numbers_of, part_of, row_of, step_at, step_number, step_of, suite_for, suite_of, suites_bytes, zeros};
 ghost use Rattle.base.specs.Outcome.{accepted};
 ghost use Rattle.base.specs.Part.{Part};
-ghost use Rattle.base.specs.Verdict.{Gives};
+ghost use Rattle.base.specs.Refusal.{said};
 ghost use Rattle.base.specs.Written.{Writes};
 
-use auth::algorithms::{
-    AuthenticationAlgorithm, AuthenticationAnswer, ConfidentialityAlgorithm, ConfidentialityAnswer,
-    IntegrityAlgorithm, IntegrityAnswer,
-};
-use base::connection::{Channel, ChannelAnswer};
-use base::field::FieldAnswer;
+use auth::algorithms::{AuthenticationAlgorithm, ConfidentialityAlgorithm, IntegrityAlgorithm};
+use base::connection::Channel;
+use base::field::within;
 use base::refusal::Refusal;
-use base::verdict::Verdict;
-use base::written::{Written, place};
+use base::written::place;
 use collector::Collector;
 
 #[derive(Drop)]
@@ -25,70 +20,55 @@ pub struct GetChannelCipherSuites {
 }
 
 // Refused 6 or 7 where it is made, 10 where it is read.
-#[derive(Drop)]
-pub enum CommandAnswer {
-    Command(GetChannelCipherSuites),
-    Refused(Refusal),
-}
-
 impl GetChannelCipherSuites {
     pub const COMMAND: u8 = 0x54;
 
-    pub fn new(channel: Channel, list_index: u8) -> CommandAnswer
-        ensures { said_command result ≡ command_on channel list_index }
+    pub fn new(channel: Channel, list_index: u8) -> Result<Self, Refusal>
+        ensures { said result ≡ command_on channel list_index }
     {
         if Collector::LAST_INDEX < list_index {
-            return CommandAnswer::Refused(Refusal::BadIndex);
+            return Err(Refusal::BadIndex);
         }
-        CommandAnswer::Command(GetChannelCipherSuites {
+        Ok(GetChannelCipherSuites {
             channel,
             list_index,
         })
     }
 
     // For a channel that is given as a number.
-    pub fn numbered(number: u8, list_index: u8) -> CommandAnswer
-        ensures { said_command result ≡ command_for number list_index }
+    pub fn numbered(number: u8, list_index: u8) -> Result<Self, Refusal>
+        ensures { said result ≡ command_for number list_index }
     {
-        let ChannelAnswer::Channel(channel) = Channel::new(number) else {
-            return CommandAnswer::Refused(Refusal::NoChannel);
-        };
-        Self::new(channel, list_index)
+        Self::new(Channel::new(number)?, list_index)
     }
 
     // The request's data: bit 7 of the last byte stays clear.
-    pub fn write(self, out: &mut [u8]) -> Written
+    pub fn write(self, out: &mut [u8]) -> Result<usize, Refusal>
         ensures { Writes (command_bytes self) result out.old out.new }
     {
-        let channel = self.channel;
-        let index = self.list_index;
-        let FieldAnswer::Number(number) = channel.field() else {
-            return Written::Refused(Refusal::NoForm);
-        };
-        if Collector::LAST_INDEX < index {
-            return Written::Refused(Refusal::NoForm);
-        }
+        let number = self.channel.field()?;
+        let index = within(self.list_index, 0, Collector::LAST_INDEX)?;
         place(&[number, 0, index], out)
     }
 
     // The command whose request this is: takes only what some command writes.
-    pub fn read(request: &[u8]) -> CommandAnswer
-        ensures { said_command result ≡ command_of request.now }
+    pub fn read(request: &[u8]) -> Result<Self, Refusal>
+        ensures { said result ≡ command_of request.now }
     {
         if request.len() != 3 {
-            return CommandAnswer::Refused(Refusal::NotARequest);
+            return Err(Refusal::NotARequest);
         }
-        let ChannelAnswer::Channel(channel) = Channel::new(request[0]) else {
-            return CommandAnswer::Refused(Refusal::NotARequest);
+        let Ok(channel) = Channel::new(request[0]) else {
+            return Err(Refusal::NotARequest);
         };
         if request[1] != 0 {
-            return CommandAnswer::Refused(Refusal::NotARequest);
+            return Err(Refusal::NotARequest);
         }
         let index = request[2];
         if Collector::LAST_INDEX < index {
-            return CommandAnswer::Refused(Refusal::NotARequest);
+            return Err(Refusal::NotARequest);
         }
-        CommandAnswer::Command(GetChannelCipherSuites {
+        Ok(GetChannelCipherSuites {
             channel,
             list_index: index,
         })
@@ -100,12 +80,6 @@ impl GetChannelCipherSuites {
 pub struct ChannelCipherSuites {
     pub data_length: usize,
     pub record_data: [u8; Collector::PART],
-}
-
-#[derive(Drop)]
-pub struct SuitesAnswer {
-    pub verdict: Verdict,
-    pub suites: ChannelCipherSuites,
 }
 
 // Whether all bytes from a place on are zero.
@@ -138,47 +112,37 @@ impl ChannelCipherSuites {
         ensures { Typed self }
     {}
 
-    pub fn parse(response: &[u8]) -> SuitesAnswer
-        ensures { Gives (part_of response.now) no_suites result.verdict result.suites }
+    pub fn parse(response: &[u8]) -> Result<Self, Refusal>
+        ensures { said result ≡ part_of response.now }
     {
+        let data_length = response.len();
+        if Collector::PART < data_length {
+            return Err(Refusal::TooMuchData);
+        }
         let mut record_data = [0; Collector::PART];
-        if Collector::PART < response.len() {
-            return SuitesAnswer {
-                verdict: Verdict::Refused(Refusal::TooMuchData),
-                suites: ChannelCipherSuites {
-                    data_length: 0,
-                    record_data,
-                },
-            };
-        }
-        place(response, &mut record_data);
-        SuitesAnswer {
-            verdict: Verdict::Accepted,
-            suites: ChannelCipherSuites {
-                data_length: response.len(),
-                record_data,
-            },
-        }
+        record_data[..data_length].copy_from_slice(response);
+        Ok(ChannelCipherSuites {
+            data_length,
+            record_data,
+        })
     }
 
     // The response's data.
-    pub fn write(self, out: &mut [u8]) -> Written
+    pub fn write(self, out: &mut [u8]) -> Result<usize, Refusal>
         ensures { Writes (suites_bytes self) result out.old out.new }
     {
-        let length = self.data_length;
-        let bytes = self.record_data;
-        if Collector::PART < length {
-            return Written::Refused(Refusal::NoForm);
+        if Collector::PART < self.data_length {
+            return Err(Refusal::NoForm);
         }
-        if !zero_from(&bytes, length) {
-            return Written::Refused(Refusal::NoForm);
+        if !zero_from(&self.record_data, self.data_length) {
+            return Err(Refusal::NoForm);
         }
-        place(filled(&bytes, length), out)
+        place(filled(&self.record_data, self.data_length), out)
     }
 }
 
 // The numbers of a suite's three algorithms: a row of the table.
-#[derive(Clone, Copy)]
+#[derive(Clone, Copy, PartialEq)]
 pub struct Row {
     pub authentication: u8,
     pub integrity: u8,
@@ -296,30 +260,6 @@ const COUNT: u8 = SUITES.len() as u8;
 #[derive(Clone, Copy)]
 pub struct CipherSuite(pub u8);
 
-#[derive(Drop)]
-pub enum SuiteAnswer {
-    Suite(CipherSuite),
-    Nothing,
-}
-
-#[derive(Drop)]
-pub enum RowAnswer {
-    Row(Row),
-    Nothing,
-}
-
-fn equal(a: Row, b: Row) -> bool
-    ensures { result ≡ same a b }
-{
-    if a.authentication != b.authentication {
-        return false;
-    }
-    if a.integrity != b.integrity {
-        return false;
-    }
-    a.confidentiality == b.confidentiality
-}
-
 impl CipherSuite {
     pub fn id(self) -> u8
         ensures { result ≡ self.0 }
@@ -327,66 +267,55 @@ impl CipherSuite {
         self.0
     }
 
-    pub fn from_id(value: u8) -> SuiteAnswer
-        ensures { said_suite result ≡ accepted (suite_of value) }
+    pub fn from_id(value: u8) -> Option<CipherSuite>
+        ensures { result ≡ suite_of value }
     {
         if value < COUNT {
-            return SuiteAnswer::Suite(CipherSuite(value));
+            return Some(CipherSuite(value));
         }
-        SuiteAnswer::Nothing
+        None
     }
 
-    pub fn from_suite(suite: Row) -> SuiteAnswer
-        ensures { said_suite result ≡ accepted (suite_for suite) }
+    pub fn from_suite(suite: Row) -> Option<CipherSuite>
+        ensures { result ≡ suite_for suite }
     {
         // The table is made anew at each use of its name.
         let suites = SUITES;
-        let mut i: usize = 0;
-        while i < suites.len() {
-            if equal(suites[i], suite) {
-                return SuiteAnswer::Suite(CipherSuite(i as u8));
+        for (i, row) in suites.iter().enumerate() {
+            if *row == suite {
+                return Some(CipherSuite(i as u8));
             }
-            i += 1;
         }
-        SuiteAnswer::Nothing
+        None
     }
 
-    pub fn into_suite(self) -> RowAnswer
-        ensures { said_row result ≡ accepted (row_of self.0) }
+    pub fn into_suite(self) -> Option<Row>
+        ensures { result ≡ row_of self.0 }
     {
         let number = self.0;
         if number < COUNT {
-            return RowAnswer::Row(SUITES[number as usize]);
+            return Some(SUITES[number as usize]);
         }
-        RowAnswer::Nothing
+        None
     }
 
-    pub fn authentication(self) -> AuthenticationAnswer
-        ensures { said_authentication result ≡ accepted (authentication_of self.0) }
+    pub fn authentication(self) -> Option<AuthenticationAlgorithm>
+        ensures { result ≡ authentication_of self.0 }
     {
-        let RowAnswer::Row(row) = self.into_suite() else {
-            return AuthenticationAnswer::Nothing;
-        };
-        AuthenticationAlgorithm::try_from(row.authentication)
+        AuthenticationAlgorithm::try_from(self.into_suite()?.authentication).ok()
     }
 
-    pub fn integrity(self) -> IntegrityAnswer
-        ensures { said_integrity result ≡ accepted (integrity_of self.0) }
+    pub fn integrity(self) -> Option<IntegrityAlgorithm>
+        ensures { result ≡ integrity_of self.0 }
     {
-        let RowAnswer::Row(row) = self.into_suite() else {
-            return IntegrityAnswer::Nothing;
-        };
-        IntegrityAlgorithm::try_from(row.integrity)
+        IntegrityAlgorithm::try_from(self.into_suite()?.integrity).ok()
     }
 
     // The third column; the Rust reads the second.
-    pub fn confidentiality(self) -> ConfidentialityAnswer
-        ensures { said_confidentiality result ≡ accepted (confidentiality_of self.0) }
+    pub fn confidentiality(self) -> Option<ConfidentialityAlgorithm>
+        ensures { result ≡ confidentiality_of self.0 }
     {
-        let RowAnswer::Row(row) = self.into_suite() else {
-            return ConfidentialityAnswer::Nothing;
-        };
-        ConfidentialityAlgorithm::try_from(row.confidentiality)
+        ConfidentialityAlgorithm::try_from(self.into_suite()?.confidentiality).ok()
     }
 }
 
@@ -402,7 +331,7 @@ const RECORD: usize = 2 + ALGORITHMS;
 // What a step of the reading gives, and where and how it leaves the reading.
 #[derive(Drop)]
 pub struct Step {
-    pub answer: SuiteAnswer,
+    pub answer: Option<CipherSuite>,
     pub position: usize,
     pub failed: bool,
 }
@@ -411,7 +340,7 @@ fn nothing(position: usize, failed: bool) -> Step
     ensures { result ≡ nothing position failed }
 {
     Step {
-        answer: SuiteAnswer::Nothing,
+        answer: None,
         position,
         failed,
     }
@@ -424,14 +353,14 @@ fn step_number(list: &[u8], at: usize) -> Step
     if list.len() <= at {
         return nothing(at, false);
     }
-    let SuiteAnswer::Suite(suite) = CipherSuite::from_id(list[at]) else {
+    let Some(suite) = CipherSuite::from_id(list[at]) else {
         return nothing(at + 1, false);
     };
     if list.len() - at <= ALGORITHMS {
         return nothing(list.len(), false);
     }
     Step {
-        answer: SuiteAnswer::Suite(suite),
+        answer: Some(suite),
         position: at + ALGORITHMS + 1,
         failed: false,
     }
@@ -455,14 +384,9 @@ pub fn step_at(list: &[u8], position: usize, failed: bool) -> Step
 
 // Whether a step at this place gives a suite.
 fn is_record(list: &[u8], at: usize) -> bool
-    ensures { result ≡ is_suite (step_at list.now at false).answer }
+    ensures { result ≡ is_some (step_at list.now at false).answer }
 {
-    let step = step_at(list, at, false);
-    let answer = step.answer;
-    match answer {
-        SuiteAnswer::Suite(_) => true,
-        SuiteAnswer::Nothing => false,
-    }
+    step_at(list, at, false).answer.is_some()
 }
 
 // How many suites the list has.
@@ -479,19 +403,17 @@ fn count(list: &[u8]) -> usize
 }
 
 // The numbers of the list's suites, a byte each, up to the first step that gives nothing.
-pub fn suite_numbers(list: &[u8], out: &mut [u8]) -> Written
+pub fn suite_numbers(list: &[u8], out: &mut [u8]) -> Result<usize, Refusal>
     ensures { Writes (accepted (numbers_of list.now)) result out.old out.new }
 {
     let n = count(list);
     if out.len() < n {
-        return Written::Refused(Refusal::NoRoom);
+        return Err(Refusal::NoRoom);
     }
-    let mut i: usize = 0;
-    while i < n {
+    for i in 0..n {
         out[i] = list[RECORD * i + 1];
-        i += 1;
     }
-    Written::Length(n)
+    Ok(n)
 }
 
 // The Rust's iterator: it holds the lent list, and steps as it does.
@@ -513,7 +435,7 @@ impl<'a> Iter<'a> {
         }
     }
 
-    pub fn next(&mut self) -> SuiteAnswer
+    pub fn next(&mut self) -> Option<CipherSuite>
         ensures { (result ≡ (step_of self.old).answer) × (self.new ≡ moved self.old (step_of self.old)) }
     {
         let step = step_at(self.list, self.position, self.failed);

@@ -3,7 +3,6 @@ use mathlib.Core.Logic.{◌↔◌}
 use mathlib.Core.Path.{◌≡◌, refl, sym, ◌∙◌, ap}
 use mathlib.Core.Bool.{Bool, true, false}
 use mathlib.Core.List.{List, [], ◌∷◌, map}
-use mathlib.Core.Option.{Option, none, some}
 use Prim.Native.Nat.{ℕ, zero, suc, ◌+◌, ◌-◌, ◌≤◌, ◌<◌}
 use native.Mathlib.Numerals.{add-one}
 use native.Mathlib.Omega.{arith}
@@ -11,7 +10,7 @@ use borrow.Author.Tests.{eq-eqb, ne_eqb, eqb-true, ltb-true, ltb-false, lt-ltb, 
 use lib.Dec.{eqb, lit<, ltb}
 use lib.ListN.{length, get_or, take, drop, replicate, length-take, length-drop, take-append-drop, drop_of_length-le, get_or-eq_default}
 use lib.Seq.{drop-cons, drop-append_seam, take-append_seam}
-use Rattle.std.specs.Prelude.{if◌then◌else◌}
+use Rattle.std.specs.Prelude.{if◌then◌else◌, ◌&&◌, Option, Some, None}
 use Rattle.base.specs.Connection.{channel_of, channel_field}
 use Rattle.base.specs.Field.{Bytes, byte, within}
 use Rattle.base.specs.Named.{named}
@@ -20,11 +19,8 @@ use Rattle.base.specs.declared.connection.Channel.{Channel}
 use Rattle.base.proofs.Outcome.{apart, otherwise, when, Only, steps, only_steps, only_else, only_refused, inside, ranged, only_ranged}
 use Rattle.base.proofs.Rows.{NoForm, nine, Strict, strict}
 use Rattle.base.proofs.connection.Laws.{channel_iff, channel_small, begins_only}
-use Rattle.base.specs.Written.{Writes}
-use Rattle.base.specs.declared.written.Written.{Written}
 use Rattle.base.proofs.field.Laws.{below, so_long}
 use Rattle.base.proofs.little.Laws.{are_bytes, bytes_take}
-use Rattle.base.proofs.written.Laws.{padding}
 use Rattle.auth.specs.Algorithms as Algorithms
 use Rattle.suites.specs.GetChannelCipherSuites.{Typed, authentication_of, column, command, command_bytes, command_of, command_on, confidentiality_of, find, integrity_of, part, row, row_of, same, suite, suite_for, suite_of, suites, suites_bytes, zeros, part_of}
 use Rattle.collector.specs.Collector.{last_index, part_length}
@@ -78,9 +74,6 @@ module _ (s : List ℕ) (i : ℕ) where
   unfolding zeros
   zeros_end h = rw (drop_of_length-le s h)
 
-pub response_read : (s after : List ℕ) {r : Written} → length s ≤ part_length → Writes (accepted s) r (replicate part_length 0) after → part_of s ≡ accepted (record { data_length = length s; record_data = after })
-response_read s after h w = rw (le-ltb part_length (length s) h, padding part_length h w)
-
 pub all_zero : (t : List ℕ) → zeros t ≡ true → t ≡ replicate (length t) 0
 unfolding zeros
 all_zero [] e = refl
@@ -125,31 +118,28 @@ suites_no_form c h = nine part_of suites_bytes c (only_else 9 (ltb part_length c
 
 -- Reading the table by number.
 
-named_at : {A : Type 0} (rows : List A) (d : A) (n : ℕ) → n < length rows → named (map some rows) n ≡ some (get_or rows n d)
+named_at : {A : Type 0} (rows : List A) (d : A) (n : ℕ) → n < length rows → named (map Some rows) n ≡ Some (get_or rows n d)
 named_at [] d n h = absurd (omega arith)
 named_at (x ∷ rows) d zero h = refl
 named_at (x ∷ rows) d (suc n) h = named_at rows d n (omega arith)
 
-pub row_at : (n : ℕ) → n < length suites → row_of n ≡ some (get_or suites n (row 0 0 0))
+pub row_at : (n : ℕ) → n < length suites → row_of n ≡ Some (get_or suites n (row 0 0 0))
 row_at n h = named_at suites (row 0 0 0) n h
 
-pub no_row : (n : ℕ) → length suites ≤ n → row_of n ≡ none
+pub no_row : (n : ℕ) → length suites ≤ n → row_of n ≡ None
 unfolding suites
-no_row n h = get_or-eq_default (map some suites) none h
+no_row n h = get_or-eq_default (map Some suites) None h
 
 -- Reading it by row.
-
-pub last_column : (a b : Row) → a.authentication ≡ b.authentication → a.integrity ≡ b.integrity → eqb a.confidentiality b.confidentiality ≡ same a b
-last_column a b p q = simp (eq-eqb _ _ p, eq-eqb _ _ q)
 
 module _ (rows : List Row) (i : ℕ) (r d : Row) (h : i < length rows) where
   pub missed : same (get_or rows i d) r ≡ false → find (drop i rows) i r ≡ find (drop (i + 1) rows) (i + 1) r
   missed e = rw (drop-cons rows i d h, e, add-one)
 
-  pub hit : same (get_or rows i d) r ≡ true → find (drop i rows) i r ≡ some (suite i)
+  pub hit : same (get_or rows i d) r ≡ true → find (drop i rows) i r ≡ Some (suite i)
   hit e = rw (drop-cons rows i d h, e)
 
-one_number : (j k : ℕ) → some (suite j) ≡ some (suite k) → j ≡ k
+one_number : (j k : ℕ) → Some (suite j) ≡ Some (suite k) → j ≡ k
 one_number j k e = let z : suite j ≡ suite k = cc in ap (λ (s : CipherSuite). s.0) z
 
 pub twenty_rows : length suites ≡ 20
@@ -157,9 +147,9 @@ unfolding suites
 twenty_rows = refl
 
 -- The table's rule, by one computed test: each row is found at its own number ..
-pub found : (n : ℕ) → n < length suites → column suite_for (row_of n) ≡ some (suite n)
+pub found : (n : ℕ) → n < length suites → column suite_for (row_of n) ≡ Some (suite n)
 unfolding suites
-found = below (length suites) (λ n. column suite_for (row_of n)) (λ n. some (suite n)) refl
+found = below (length suites) (λ n. column suite_for (row_of n)) (λ n. Some (suite n)) refl
 
 -- .. so that no two rows are the same,
 pub rows_differ : (j k : ℕ) → j < length suites → k < length suites → row_of j ≡ row_of k → j ≡ k
@@ -169,7 +159,7 @@ same_row : (a b : Row) → same a b ≡ true → a ≡ b
 same_row a b e = go (eqb a.authentication b.authentication) (eqb a.integrity b.integrity) (eqb a.confidentiality b.confidentiality) refl refl refl e
   where
     go : (x y z : Bool) → eqb a.authentication b.authentication ≡ x → eqb a.integrity b.integrity ≡ y → eqb a.confidentiality b.confidentiality ≡ z
-        → (if x then (if y then z else false) else false) ≡ true → a ≡ b
+        → x && (y && z) ≡ true → a ≡ b
     go true true true p q r e = alike a b (eqb-true _ _ p) (eqb-true _ _ q) (eqb-true _ _ r)
       where
         alike : (a b : Row) → a.authentication ≡ b.authentication → a.integrity ≡ b.integrity → a.confidentiality ≡ b.confidentiality → row a.authentication a.integrity a.confidentiality ≡ row b.authentication b.integrity b.confidentiality
@@ -178,44 +168,44 @@ same_row a b e = go (eqb a.authentication b.authentication) (eqb a.integrity b.i
     go true false z p q r e = let z : ◌≡◌ {A = ℕ} 0 1 = cc in absurd (omega arith)
     go false y z p q r e = let z : ◌≡◌ {A = ℕ} 0 1 = cc in absurd (omega arith)
 
-find_row : (rows : List Row) (at n : ℕ) (r : Row) → find rows at r ≡ some (suite n) → (j : ℕ) × (n ≡ at + j) × (named (map some rows) j ≡ some r)
+find_row : (rows : List Row) (at n : ℕ) (r : Row) → find rows at r ≡ Some (suite n) → (j : ℕ) × (n ≡ at + j) × (named (map Some rows) j ≡ Some r)
 find_row [] at n r e = let z : ◌≡◌ {A = ℕ} 0 1 = cc in absurd (omega arith)
 find_row (x ∷ rows) at n r e = go (same x r) refl e (λ f. find_row rows (suc at) n r f)
   where
-    go : (b : Bool) → same x r ≡ b → (if b then some (suite at) else find rows (suc at) r) ≡ some (suite n)
-        → (find rows (suc at) r ≡ some (suite n) → (j : ℕ) × (n ≡ suc at + j) × (named (map some rows) j ≡ some r))
-        → (j : ℕ) × (n ≡ at + j) × (named (some x ∷ map some rows) j ≡ some r)
-    go true p e rest = let z = one_number at n e in (0, omega arith, ap some (same_row x r p))
+    go : (b : Bool) → same x r ≡ b → (if b then Some (suite at) else find rows (suc at) r) ≡ Some (suite n)
+        → (find rows (suc at) r ≡ Some (suite n) → (j : ℕ) × (n ≡ suc at + j) × (named (map Some rows) j ≡ Some r))
+        → (j : ℕ) × (n ≡ at + j) × (named (Some x ∷ map Some rows) j ≡ Some r)
+    go true p e rest = let z = one_number at n e in (0, omega arith, ap Some (same_row x r p))
     go false p e rest = let (j, f, g) = rest e in (suc j, omega arith, g)
 
 -- and that the two lookups are each other's inverse.
-pub row_iff : (n : ℕ) (r : Row) → row_of n ≡ some r ↔ suite_for r ≡ some (suite n)
+pub row_iff : (n : ℕ) (r : Row) → row_of n ≡ Some r ↔ suite_for r ≡ Some (suite n)
 row_iff n r = (λ e. go (ltb n (length suites)) refl e, back)
   where
-    go : (b : Bool) → ltb n (length suites) ≡ b → row_of n ≡ some r → suite_for r ≡ some (suite n)
+    go : (b : Bool) → ltb n (length suites) ≡ b → row_of n ≡ Some r → suite_for r ≡ Some (suite n)
     go true p e = rw e at (found n (ltb-true n (length suites) p))
     go false p e = let f = no_row n (ltb-false n (length suites) p) in let z : ◌≡◌ {A = ℕ} 0 1 = cc in absurd (omega arith)
 
-    back : suite_for r ≡ some (suite n) → row_of n ≡ some r
+    back : suite_for r ≡ Some (suite n) → row_of n ≡ Some r
     back e = let (j, f, g) = find_row suites 0 n r e in let z : n ≡ j = omega arith in rw z g
 
 -- a number is a suite's exactly where a row stands at it
-pub suite_iff : (n : ℕ) → suite_of n ≡ some (suite n) ↔ n < length suites
+pub suite_iff : (n : ℕ) → suite_of n ≡ Some (suite n) ↔ n < length suites
 suite_iff n = (λ e. go (ltb n (length suites)) refl e, λ h. simp (lt-ltb n (length suites) h))
   where
-    go : (b : Bool) → ltb n (length suites) ≡ b → (if b then some (suite n) else none) ≡ some (suite n) → n < length suites
+    go : (b : Bool) → ltb n (length suites) ≡ b → (if b then Some (suite n) else None) ≡ Some (suite n) → n < length suites
     go true p e = ltb-true n (length suites) p
     go false p e = let z : ◌≡◌ {A = ℕ} 0 1 = cc in absurd (omega arith)
 
 -- Every number of the table names an algorithm, so a suite's three are never nothing; each is its own column's.
 abbrev pub known : {A : Type 0} → Option A → Bool
-known none = false
-known (some a) = true
+known None = false
+known (Some a) = true
 
 pub all_known : (n : ℕ) → n < length suites → (known (authentication_of n) ≡ true) × (known (integrity_of n) ≡ true) × (known (confidentiality_of n) ≡ true)
 unfolding suites
 all_known n h =
     (below (length suites) (λ n. known (authentication_of n)) (λ n. true) refl n h, below (length suites) (λ n. known (integrity_of n)) (λ n. true) refl n h, below (length suites) (λ n. known (confidentiality_of n)) (λ n. true) refl n h)
 
-pub third_column : (n : ℕ) (r : Row) → row_of n ≡ some r → confidentiality_of n ≡ Algorithms.confidentiality_of r.confidentiality
+pub third_column : (n : ℕ) (r : Row) → row_of n ≡ Some r → confidentiality_of n ≡ Algorithms.confidentiality_of r.confidentiality
 third_column n r e = rw e

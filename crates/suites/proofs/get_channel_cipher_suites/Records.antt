@@ -2,19 +2,17 @@
 use mathlib.Core.Path.{◌≡◌, refl, sym, ◌∙◌, ap}
 use mathlib.Core.Bool.{Bool, true, false}
 use mathlib.Core.List.{List, [], ◌∷◌}
-use mathlib.Core.Option.{none, some}
 use Prim.Native.Nat.{ℕ, zero, suc, ◌+◌, ◌-◌, ◌*◌, ◌≤◌, ◌<◌}
 use native.Mathlib.Omega.{arith}
 use borrow.Author.Tests.{ltb-true}
 use lib.Dec.{eqb, ltb}
 use lib.ListN.{length, get_or}
-use Rattle.std.specs.Prelude.{if◌then◌else◌}
+use Rattle.std.specs.Prelude.{if◌then◌else◌, is_some, Some, None}
 use Rattle.base.specs.Field.{byte}
-use Rattle.suites.specs.GetChannelCipherSuites.{algorithms, before, gives, is_suite, moved, nothing, numbers_of, record_start, step_after, step_at, step_number, step_of, step_suite, suite, suite_of, suites, up_to}
+use Rattle.suites.specs.GetChannelCipherSuites.{algorithms, before, gives, moved, nothing, numbers_of, record_start, step_after, step_at, step_number, step_of, step_suite, suite, suite_of, suites, up_to}
 use Rattle.suites.specs.declared.get_channel_cipher_suites.CipherSuite.{CipherSuite}
 use Rattle.suites.specs.declared.get_channel_cipher_suites.Iter.{Iter}
 use Rattle.suites.specs.declared.get_channel_cipher_suites.Step.{Step}
-use Rattle.suites.specs.declared.get_channel_cipher_suites.SuiteAnswer.TheVariants.{Suite, Nothing}
 
 -- it takes a record's five bytes and gives the suite of the second, or it gives nothing
 pub data View (list : List ℕ) (p : ℕ) : Step → Type 0 where
@@ -30,7 +28,7 @@ module _ (list : List ℕ) (p : ℕ) where
       rw (← e, q) (taken (omega arith))
   view_whole s e false h = ended (length list) false
 
-  view_known : (b : Bool) → View list p (step_suite list (p + 1) (if b then some (suite (byte (p + 1) list)) else none))
+  view_known : (b : Bool) → View list p (step_suite list (p + 1) (if b then Some (suite (byte (p + 1) list)) else None))
   view_known true = view_whole (suite (byte (p + 1) list)) refl (ltb (p + 1 + algorithms) (length list)) refl
   view_known false = ended (p + 1 + 1) false
 
@@ -82,7 +80,7 @@ module _ (list : List ℕ) where
 
   module _ (p : ℕ) where
     -- a step that gives a suite
-    pub on : is_suite (step_at list p false).answer ≡ true → (p + 5 ≤ length list) × (length (rest list p) ≡ suc (length (rest list (p + 5))))
+    pub on : is_some (step_at list p false).answer ≡ true → (p + 5 ≤ length list) × (length (rest list p) ≡ suc (length (rest list (p + 5))))
     unfolding up_to
     on e = go (step_at list p false) (view list p) e refl
       where
@@ -90,17 +88,17 @@ module _ (list : List ℕ) where
         more zero z l q = absurd (omega arith)
         more (suc k) z l q = rw q (ap (λ (x : List ℕ). suc (length x)) (enough k (length list - (p + 5)) (p + 5) (omega arith) (omega arith)))
 
-        go : (s : Step) → View list p s → is_suite s.answer ≡ true → step_at list p false ≡ s → (p + 5 ≤ length list) × (length (rest list p) ≡ suc (length (rest list (p + 5))))
+        go : (s : Step) → View list p s → is_some s.answer ≡ true → step_at list p false ≡ s → (p + 5 ≤ length list) × (length (rest list p) ≡ suc (length (rest list (p + 5))))
         go s (taken l) e q = (l, more (length list - p) refl l q)
         go s (ended x f) e q = no_suite e
 
     -- and one that gives none
-    pub off : is_suite (step_at list p false).answer ≡ false → (k : ℕ) → up_to k list p false ≡ []
+    pub off : is_some (step_at list p false).answer ≡ false → (k : ℕ) → up_to k list p false ≡ []
     unfolding up_to
     off e zero = refl
     off e (suc k) = go (step_at list p false) (view list p) e
       where
-        go : (s : Step) → View list p s → is_suite s.answer ≡ false → before s.answer (up_to k list s.position s.failed) ≡ []
+        go : (s : Step) → View list p s → is_some s.answer ≡ false → before s.answer (up_to k list s.position s.failed) ≡ []
         go s (taken l) e = no_suite (sym e)
         go s (ended q f) e = refl
 
@@ -137,34 +135,34 @@ module _ (list : List ℕ) where
 
   -- "The list of a byte string is the suites up to the first step that gives nothing": each step before that gives the
   -- suite that stands at its place in the list, and the next one nothing.
-  listed : (k p i : ℕ) → i < length (up_to k list p false) → (step_after i list p false).answer ≡ Suite (suite (get_or (up_to k list p false) i 0))
+  listed : (k p i : ℕ) → i < length (up_to k list p false) → (step_after i list p false).answer ≡ Some (suite (get_or (up_to k list p false) i 0))
   unfolding up_to step_after
   listed zero p i h = absurd (omega arith)
   listed (suc k) p i h = go (step_at list p false) (view list p) i h refl (λ j. listed k (p + 5) j)
     where
       go : (s : Step) → View list p s → (i : ℕ) → i < length (before s.answer (up_to k list s.position s.failed)) → step_at list p false ≡ s
-          → ((j : ℕ) → j < length (up_to k list (p + 5) false) → (step_after j list (p + 5) false).answer ≡ Suite (suite (get_or (up_to k list (p + 5) false) j 0)))
-          → (step_after i list p false).answer ≡ Suite (suite (get_or (before s.answer (up_to k list s.position s.failed)) i 0))
+          → ((j : ℕ) → j < length (up_to k list (p + 5) false) → (step_after j list (p + 5) false).answer ≡ Some (suite (get_or (up_to k list (p + 5) false) j 0)))
+          → (step_after i list p false).answer ≡ Some (suite (get_or (before s.answer (up_to k list s.position s.failed)) i 0))
       go s (taken l) zero h e more = rw e
       go s (taken l) (suc i) h e more = follow i p e ∙ more i (omega arith)
       go s (ended q f) i h e more = absurd (omega arith)
 
-  ends : (k p : ℕ) → length list ≤ p + k → (step_after (length (up_to k list p false)) list p false).answer ≡ Nothing
+  ends : (k p : ℕ) → length list ≤ p + k → (step_after (length (up_to k list p false)) list p false).answer ≡ None
   unfolding up_to step_after
   ends zero p h = go (step_at list p false) (view list p)
     where
-      go : (s : Step) → View list p s → s.answer ≡ Nothing
+      go : (s : Step) → View list p s → s.answer ≡ None
       go s (taken l) = absurd (omega arith)
       go s (ended q f) = refl
   ends (suc k) p h = go (step_at list p false) (view list p) refl (ends k (p + 5) (omega arith))
     where
-      go : (s : Step) → View list p s → step_at list p false ≡ s → (step_after (length (up_to k list (p + 5) false)) list (p + 5) false).answer ≡ Nothing
-          → (step_after (length (before s.answer (up_to k list s.position s.failed))) list p false).answer ≡ Nothing
+      go : (s : Step) → View list p s → step_at list p false ≡ s → (step_after (length (up_to k list (p + 5) false)) list (p + 5) false).answer ≡ None
+          → (step_after (length (before s.answer (up_to k list s.position s.failed))) list p false).answer ≡ None
       go s (taken l) e more = follow (length (up_to k list (p + 5) false)) p e ∙ more
       go s (ended q f) e more = rw e
 
-  pub list_is : ((i : ℕ) → i < length (numbers_of list) → (step_after i list 0 false).answer ≡ Suite (suite (get_or (numbers_of list) i 0)))
-      × ((step_after (length (numbers_of list)) list 0 false).answer ≡ Nothing)
+  pub list_is : ((i : ℕ) → i < length (numbers_of list) → (step_after i list 0 false).answer ≡ Some (suite (get_or (numbers_of list) i 0)))
+      × ((step_after (length (numbers_of list)) list 0 false).answer ≡ None)
   list_is = (listed (length list) 0, ends (length list) 0 (omega arith))
 
   -- ".. and every later step takes and gives nothing"

@@ -6,8 +6,8 @@ use Rattle.base.proofs.written.Laws.{refusing}
 use Rattle.collector.specs.Collector.{part_length}
 use Rattle.suites.proofs.get_channel_cipher_suites.ChannelCipherSuites.write.Goals as goal
 
-pub returns-then-length-gt-PART : goal.returns-then-length-gt-PART
-returns-then-length-gt-PART c =
+pub returns-then-self-gt-PART : goal.returns-then-self-gt-PART
+returns-then-self-gt-PART c =
     let a = c.args in
     refusing NoForm a.out.now (simp (lt-ltb part_length a.self.data_length (omega arith)))
 

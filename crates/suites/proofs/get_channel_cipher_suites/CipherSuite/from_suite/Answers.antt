@@ -1,23 +1,25 @@
-use borrow.Author.Rules.{rules}
-use mathlib.Core.Path.{◌≡◌, sym, ◌∙◌, ap}
+use mathlib.Core.Path.{◌≡◌, sym, ◌∙◌}
+use mathlib.Core.Bool.{true, false}
+use lib.ListN.{get_or}
 use native.Mathlib.Omega.{arith}
-use Rattle.base.specs.Outcome.{accepted}
-use Rattle.suites.specs.GetChannelCipherSuites.{suites, row}
+use Rattle.suites.specs.GetChannelCipherSuites.{suites, row, same}
 use Rattle.suites.proofs.get_channel_cipher_suites.Laws.{hit, missed}
 use Rattle.suites.proofs.get_channel_cipher_suites.CipherSuite.from_suite.Goals as goal
 
-pub returns-then-equal : goal.returns-then-equal
+pub returns-then-eq : goal.returns-then-eq
 unfolding suites
-returns-then-equal c =
-    ap accepted (sym (c.loop-i.invariant.1 ∙ hit suites c.loop-i.i c.args.suite (row 0 0 0) (omega arith) (sym c.equal.ensures ∙ c.if-equal.true)))
+returns-then-eq c =
+    let e : same (get_or suites c.loop-i.i (row 0 0 0)) c.args.suite ≡ true = sym c.eq.ensures ∙ c.if-eq.true in
+    sym (c.loop-i.invariant ∙ hit suites c.loop-i.i c.args.suite (row 0 0 0) (omega arith) e)
 
 pub loop-i-preserved : goal.loop-i-preserved
 unfolding suites
 loop-i-preserved c =
-    (search rules, c.loop-i.invariant.1 ∙ missed suites c.loop-i.i c.args.suite (row 0 0 0) (omega arith) (sym c.equal.ensures ∙ c.if-equal.false))
+    let e : same (get_or suites c.loop-i.i (row 0 0 0)) c.args.suite ≡ false = sym c.eq.ensures ∙ c.if-eq.false in
+    c.loop-i.invariant ∙ missed suites c.loop-i.i c.args.suite (row 0 0 0) (omega arith) e
 
 pub returns : goal.returns
 unfolding suites
 returns c =
     let i : c.loop-i.i ≡ 20 = omega arith in
-    ap accepted (sym (rw i at c.loop-i.invariant.1))
+    sym (rw i at c.loop-i.invariant)
