@@ -27,7 +27,7 @@ use Rattle.media.proofs.get_channel_info.Laws.{medium_value_lem, protocol_value_
 use Rattle.set_access.specs.SetChannelAccess.{command_bytes, command_for, pair_of, parts_bytes}
 use Rattle.set_access.specs.declared.set_channel_access.SetChannelAccess.{SetChannelAccess}
 use Rattle.set_access.proofs.set_channel_access.Laws.{pair_kept, pair_field_lem, parts_are}
-use Rattle.layouts.specs.Layouts.{access_from, access_layout, access_record, info_layout, is_set, set_access_layout, settings_layout, settings_record}
+use Rattle.layouts.specs.Layouts.{access_layout, access_record, info_layout, is_set, set_access_layout, settings_layout, settings_record}
 
 -- From a response: each byte of the record is the response's own bits.
 
@@ -99,8 +99,3 @@ record_laid s = simp (mode_value_lem, limit_value_lem)
 
 pub settings_back : (s : List ℕ) → settings_layout (settings_record s) ≡ flagged 0 s ++ flagged 5 s
 settings_back s = simp (mode_value_lem, limit_value_lem, get_or-drop)
-
--- the second five bytes are those behind the first
-pub halves : (s : List ℕ) {fst snd : ChannelAccess} → fst ≡ access_record s → snd ≡ access_from (byte 5 s) (byte 6 s) (byte 7 s) (byte 8 s) (byte 9 s)
-    → record { non_volatile = fst; volatile = snd } ≡ settings_record s
-halves s e f = simp (e, f, get_or-drop)

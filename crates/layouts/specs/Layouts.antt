@@ -22,20 +22,16 @@ access_layout a = mode_value a.access_mode ∷ bool_byte a.alerting_disabled ∷
 abbrev pub is_set : ℕ → Bool
 is_set n = not (n =? 0)
 
--- the access that five numbers make: mode; what is DISABLED; limit. Mode and limit count whole
-abbrev pub access_from : ℕ → ℕ → ℕ → ℕ → ℕ → ChannelAccess
-access_from mode alerting perMessage userLevel limit =
-    record {
-      access_mode = mode_of mode;
-      alerting_disabled = is_set alerting;
-      per_msg_auth_disabled = is_set perMessage;
-      user_level_auth_disabled = is_set userLevel;
-      privilege_level_limit = limit_of limit;
-    }
-
--- the access record back, of any five bytes
+-- the access record back, of any five bytes: mode; what is DISABLED; limit. Mode and limit count whole
 abbrev pub access_record : List ℕ → ChannelAccess
-access_record s = access_from (byte 0 s) (byte 1 s) (byte 2 s) (byte 3 s) (byte 4 s)
+access_record s =
+    record {
+      access_mode = mode_of (byte 0 s);
+      alerting_disabled = is_set (byte 1 s);
+      per_msg_auth_disabled = is_set (byte 2 s);
+      user_level_auth_disabled = is_set (byte 3 s);
+      privilege_level_limit = limit_of (byte 4 s);
+    }
 
 -- channel; the pairs of mode and limit, "00 leave, 01 set non-volatile, 10 set volatile"; the access record
 abbrev pub set_access_layout : SetChannelAccess → List ℕ

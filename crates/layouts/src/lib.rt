@@ -2,11 +2,11 @@
 #![tactic(auto)]
 
 ghost use Rattle.std.specs.Prelude.{◌≡◌};
-ghost use Rattle.layouts.specs.Layouts.{access_from, access_layout, access_record, capabilities_layout, info_layout, set_access_layout, settings_layout, settings_record};
+ghost use Rattle.layouts.specs.Layouts.{access_layout, access_record, capabilities_layout, info_layout, set_access_layout, settings_layout, settings_record};
 
-use access::get_channel_access::{ChannelAccess, ChannelAccessMode, ChannelPrivilegeLevel};
+use access::get_channel_access::ChannelAccess;
 use auth::get_channel_authentication_capabilities::ChannelAuthenticationCapabilities;
-use base::little::bytes4;
+use base::little::bytes;
 use info::get_channel_info::ChannelInfo;
 use set_access::set_channel_access::{ChannelSettings, SetChannelAccess};
 
@@ -14,67 +14,48 @@ use set_access::set_channel_access::{ChannelSettings, SetChannelAccess};
 pub fn access_layout(access: ChannelAccess) -> [u8; 5]
     ensures { result ≡ access_layout access }
 {
-    let mode = access.access_mode;
-    let limit = access.privilege_level_limit;
     [
-        mode.value(),
+        access.access_mode.into(),
         access.alerting_disabled as u8,
         access.per_msg_auth_disabled as u8,
         access.user_level_auth_disabled as u8,
-        limit.value(),
+        access.privilege_level_limit.into(),
     ]
 }
 
-// Any number but 0 sets a flag; mode and limit count whole.
-fn access_from(mode: u8, alerting: u8, per_message: u8, user_level: u8, limit: u8) -> ChannelAccess
-    ensures { result ≡ access_from mode alerting per_message user_level limit }
-{
-    ChannelAccess {
-        access_mode: ChannelAccessMode::from(mode),
-        alerting_disabled: alerting != 0,
-        per_msg_auth_disabled: per_message != 0,
-        user_level_auth_disabled: user_level != 0,
-        privilege_level_limit: ChannelPrivilegeLevel::from(limit),
-    }
-}
-
-// The record back, of any bytes.
+// The record back, of any bytes: any number but 0 sets a flag; mode and limit count whole.
 pub fn access_record(bytes: &[u8; 5]) -> ChannelAccess
     ensures { result ≡ access_record bytes.now }
 {
-    access_from(bytes[0], bytes[1], bytes[2], bytes[3], bytes[4])
+    ChannelAccess {
+        access_mode: bytes[0].into(),
+        alerting_disabled: bytes[1] != 0,
+        per_msg_auth_disabled: bytes[2] != 0,
+        user_level_auth_disabled: bytes[3] != 0,
+        privilege_level_limit: bytes[4].into(),
+    }
 }
 
 // Channel; the pair of the mode; the pair of the limit; the access record.
 pub fn set_access_layout(command: SetChannelAccess) -> [u8; 8]
     ensures { result ≡ set_access_layout command }
 {
-    let channel = command.channel;
-    let mode = command.mode_pair;
-    let limit = command.limit_pair;
-    let access = command.access;
-    let a = access_layout(access);
-    [
-        channel.value(),
-        mode.value(),
-        limit.value(),
-        a[0],
-        a[1],
-        a[2],
-        a[3],
-        a[4],
-    ]
+    let mut bytes = [0; 8];
+    bytes[0] = command.channel.value();
+    bytes[1] = command.mode_pair.into();
+    bytes[2] = command.limit_pair.into();
+    bytes[3..].copy_from_slice(&access_layout(command.access));
+    bytes
 }
 
 // The access record of the non-volatile settings, then that of the volatile ones.
 pub fn settings_layout(settings: ChannelSettings) -> [u8; 10]
     ensures { result ≡ settings_layout settings }
 {
-    let non_volatile = settings.non_volatile;
-    let volatile = settings.volatile;
-    let n = access_layout(non_volatile);
-    let v = access_layout(volatile);
-    [n[0], n[1], n[2], n[3], n[4], v[0], v[1], v[2], v[3], v[4]]
+    let mut bytes = [0; 10];
+    bytes[..5].copy_from_slice(&access_layout(settings.non_volatile));
+    bytes[5..].copy_from_slice(&access_layout(settings.volatile));
+    bytes
 }
 
 // The same back, of any bytes.
@@ -82,8 +63,8 @@ pub fn settings_record(bytes: &[u8; 10]) -> ChannelSettings
     ensures { result ≡ settings_record bytes.now }
 {
     ChannelSettings {
-        non_volatile: access_from(bytes[0], bytes[1], bytes[2], bytes[3], bytes[4]),
-        volatile: access_from(bytes[5], bytes[6], bytes[7], bytes[8], bytes[9]),
+        non_volatile: access_record(&[bytes[0], bytes[1], bytes[2], bytes[3], bytes[4]]),
+        volatile: access_record(&[bytes[5], bytes[6], bytes[7], bytes[8], bytes[9]]),
     }
 }
 
@@ -91,24 +72,19 @@ pub fn settings_record(bytes: &[u8; 10]) -> ChannelSettings
 pub fn info_layout(info: ChannelInfo) -> [u8; 11]
     ensures { result ≡ info_layout info }
 {
-    let channel = info.channel;
-    let medium = info.medium_type;
-    let protocol = info.protocol_type;
-    let session = info.session_support;
-    let aux = info.aux_info;
-    let v = bytes4(info.vendor_id);
+    let v = bytes::<4>(info.vendor_id as u64);
     [
-        channel.value(),
-        medium.value(),
-        protocol.value(),
-        session.value(),
+        info.channel.value(),
+        info.medium_type.into(),
+        info.protocol_type.into(),
+        info.session_support.into(),
         info.active_sessions,
         v[0],
         v[1],
         v[2],
         v[3],
-        aux.byte1,
-        aux.byte2,
+        info.aux_info.byte1,
+        info.aux_info.byte2,
     ]
 }
 
