@@ -1,5 +1,5 @@
 -- Get Session Challenge. Document 01, refusals 1, 3 and 8, "The name is padded with zeros and shown up to its first zero"; IPMI 2.0, 22.16.
-use Rattle.std.specs.Prelude.{ℕ, ◌^◌, ◌<◌, List, [], ◌∷◌, ◌++◌, length, drop, replicate, if◌then◌else◌}
+use Rattle.std.specs.Prelude.{ℕ, ◌^◌, ◌<◌, List, [], ◌∷◌, ◌++◌, length, drop, if◌then◌else◌}
 use Rattle.base.specs.Choice.{◌<?◌, ◌=?◌}
 use Rattle.base.specs.Field.{Array, byte}
 use Rattle.base.specs.Little.{little, little_bytes}
@@ -10,7 +10,6 @@ use Rattle.base.specs.Written.{padded}
 use Rattle.auth.specs.Auth.{auth_type_value, auth_types}
 use Rattle.auth.specs.Session.{non_zero}
 use Rattle.auth.specs.declared.AuthType.{AuthType}
-use Rattle.auth.specs.declared.AuthType.TheVariants.{None}
 use Rattle.challenge.specs.declared.get_session_challenge.GetSessionChallenge.{GetSessionChallenge}
 use Rattle.challenge.specs.declared.get_session_challenge.SessionChallenge.{SessionChallenge}
 
@@ -19,10 +18,6 @@ use Rattle.challenge.specs.declared.get_session_challenge.SessionChallenge.{Sess
 -- a command holds its type and sixteen bytes of name
 abbrev pub command : AuthType → List ℕ → GetSessionChallenge
 command kind name = record { auth_type = kind; username = name }
-
--- stands beside a refusal
-abbrev pub no_command : GetSessionChallenge
-no_command = command None (replicate 16 0)
 
 -- the name "padded with zeros"
 abbrev pub command_for : AuthType → List ℕ → Outcome GetSessionChallenge
@@ -52,10 +47,6 @@ shown (byte ∷ name) = if byte =? 0 then [] else byte ∷ shown name
 -- a challenge holds the session's number and sixteen bytes
 abbrev pub challenge : ℕ → List ℕ → SessionChallenge
 challenge id string = record { temporary_session_id = id; challenge_string = string }
-
--- stands beside a refusal
-abbrev pub no_challenge : SessionChallenge
-no_challenge = challenge 0 (replicate 16 0)
 
 -- what every challenge of the machine has: its number has four bytes
 pub record Typed (c : SessionChallenge) : Type 0 where

@@ -1,27 +1,25 @@
 -- Laws of Get Session Challenge.
 use mathlib.Core.Path.{◌≡◌, refl, sym, ap}
-use mathlib.Core.Bool.{Bool, true, false}
+use mathlib.Core.Bool.{Bool, true, false, cond}
 use mathlib.Core.List.{List, [], ◌∷◌, ◌++◌, append-nil}
-use mathlib.Core.Option.{some}
-use Prim.Native.Nat.{ℕ, suc, ◌+◌, ◌≤◌, ◌<◌}
-use native.Mathlib.Numerals.{add-one}
+use Prim.Native.Nat.{ℕ, suc, ◌+◌}
 use native.Mathlib.Omega.{arith}
-use borrow.Author.Tests.{eq-eqb, ne_eqb, ltb-false, le-ltb}
+use borrow.Author.Tests.{ltb-false}
 use lib.Dec.{eqb, ltb}
-use lib.ListN.{length, get_or, take, drop, replicate, length-append, length-drop, length-take, length-replicate, drop_of_length-le}
-use lib.Seq.{take_all, drop-cons}
-use Rattle.std.specs.Prelude.{if◌then◌else◌}
+use lib.ListN.{length, take, drop, length-append, length-drop, length-replicate}
+use lib.Seq.{drop-cons}
+use Rattle.std.specs.Prelude.{if◌then◌else◌, Option, Some, None, unwrap_or, not, position}
+use Rattle.std.specs.List.{position_or_len}
+use Rattle.std.proofs.lemmas.List.Sums.{prefix_len-le-length}
 use Rattle.base.specs.Field.{Bytes, byte}
 use Rattle.base.specs.Little.{little, little_bytes}
 use Rattle.base.specs.Named.{named, required}
 use Rattle.base.specs.Outcome.{accepted, ◌>>=◌}
-use Rattle.base.specs.Written.{Writes, padded}
-use Rattle.base.specs.declared.written.Written.{Written}
+use Rattle.base.specs.Written.{padded}
 use Rattle.base.proofs.Named.{required_some}
 use Rattle.base.proofs.Outcome.{otherwise, when, steps}
 use Rattle.base.proofs.Rows.{NoForm, nine, Strict, strict}
 use Rattle.base.proofs.little.Laws.{a_byte, are_bytes, bytes_are, bytes_drop, number_back}
-use Rattle.base.proofs.written.Laws.{padding}
 use Rattle.auth.specs.Auth.{auth_type_value, auth_types}
 use Rattle.auth.specs.Session.{non_zero}
 use Rattle.challenge.specs.GetSessionChallenge.{Typed, TypedCommand, challenge, challenge_bytes, challenge_of, command, command_bytes, command_for, command_of, shown}
@@ -29,55 +27,32 @@ use Rattle.auth.specs.declared.AuthType.{AuthType}
 use Rattle.challenge.specs.declared.get_session_challenge.GetSessionChallenge.{GetSessionChallenge}
 use Rattle.challenge.specs.declared.get_session_challenge.SessionChallenge.{SessionChallenge}
 use Rattle.auth.proofs.Laws.{auth_again, auth_number_iff}
-use Rattle.auth.proofs.Session.{sixteen, non_zero_only}
-
--- a name that was written over sixteen zeros
-pub made : (kind : AuthType) (name after : List ℕ) {r : Written} → length name ≤ 16 → Writes (accepted name) r (replicate 16 0) after → command_for kind name ≡ accepted (command kind after)
-made kind name after h w = rw (le-ltb 16 (length name) h, padding 16 h w)
-
--- the last sixteen bytes
-last : (k : ℕ) (s : List ℕ) → length s ≡ k + 16 → take 16 (drop k s) ≡ drop k s
-last k s h = take_all 16 (drop k s) (rw length-drop (omega arith))
-
-pub request_read : (s after : List ℕ) (kind : AuthType) {r : Written} → length s ≡ 17 → named auth_types (byte 0 s) ≡ some kind → Writes (accepted (take 16 (drop 1 s))) r (replicate 16 0) after → command_of s ≡ accepted (command kind after)
-request_read s after kind h e w = rw (eq-eqb (length s) 17 h, e, sixteen (take 16 (drop 1 s)) after (simp (length-take, length-drop) (omega arith)) w, last 1 s h)
-
-pub response_read : (s after : List ℕ) (id : ℕ) {r : Written} → length s ≡ 20 → id ≡ little (byte 0 s ∷ byte 1 s ∷ byte 2 s ∷ byte 3 s ∷ []) → (id ≡ 0 → ⊥)
-    → Writes (accepted (take 16 (drop 4 s))) r (replicate 16 0) after → challenge_of s ≡ accepted (challenge id after)
-response_read s after id h e ne w = rw (eq-eqb (length s) 20 h, ← e, ne_eqb id 0 ne, sixteen (take 16 (drop 4 s)) after (simp (length-take, length-drop) (omega arith)) w, last 4 s h)
+use Rattle.auth.proofs.Session.{non_zero_only}
 
 -- The name that is shown.
 
--- a byte that is not zero is shown, and then the rest
-pub shown_on : (s : List ℕ) (i : ℕ) → i < length s → (get_or s i 0 ≡ 0 → ⊥) → length (shown s) ≡ i + length (shown (drop i s)) → length (shown s) ≡ i + 1 + length (shown (drop (i + 1) s))
-unfolding shown
-shown_on s i h ne e = rw e (rw (drop-cons s i 0 h, ne_eqb (get_or s i 0) 0 ne, add-one i) (omega arith))
-
-pub shown_stop : (s : List ℕ) (i : ℕ) → i < length s → get_or s i 0 ≡ 0 → length (shown s) ≡ i + length (shown (drop i s)) → i ≡ length (shown s)
-unfolding shown
-shown_stop s i h z e = rw (e, drop-cons s i 0 h, z) (omega arith)
-
-pub shown_end : (s : List ℕ) (i : ℕ) → length s ≤ i → length (shown s) ≡ i + length (shown (drop i s)) → i ≡ length (shown s)
-unfolding shown
-shown_end s i h e = rw (e, drop_of_length-le s h) (omega arith)
-
-pub shown_part : (s : List ℕ) → take (length (shown s)) s ≡ shown s
+-- what lies before the first zero
+pub shown_part : (s : List ℕ) → take (position_or_len (λ b. eqb b 0) s) s ≡ shown s
 unfolding shown
 shown_part [] = refl
 shown_part (b ∷ s) = go (eqb b 0) (shown_part s)
   where
-    go : (x : Bool) → take (length (shown s)) s ≡ shown s → take (length (if x then [] else b ∷ shown s)) (b ∷ s) ≡ (if x then [] else b ∷ shown s)
+    go : (x : Bool) → take (position_or_len (λ b. eqb b 0) s) s ≡ shown s → take (cond (not x) (1 + position_or_len (λ b. eqb b 0) s) 0) (b ∷ s) ≡ (if x then [] else b ∷ shown s)
     go true e = refl
-    go false e = ap (λ (r : List ℕ). b ∷ r) e
+    go false e =
+        let z : 1 + position_or_len (λ b. eqb b 0) s ≡ suc (position_or_len (λ b. eqb b 0) s) = omega arith in
+        rw z (ap (λ (r : List ℕ). b ∷ r) e)
 
-pub shown_short : (s : List ℕ) → length (shown s) ≤ length s
-unfolding shown
-shown_short [] = omega arith
-shown_short (b ∷ s) = go (eqb b 0) (shown_short s)
+-- its end, as the search for a zero gives it
+pub shown_end : (s : List ℕ) (found : Option ℕ) → found ≡ position (λ b. eqb b 0) s → unwrap_or found (length s) ≡ position_or_len (λ b. eqb b 0) s
+shown_end s found e = rw e (go (ltb end (length s)) refl)
   where
-    go : (x : Bool) → length (shown s) ≤ length s → length (if x then [] else b ∷ shown s) ≤ suc (length s)
-    go true h = omega arith
-    go false h = omega arith
+    end : ℕ
+    end = position_or_len (λ b. eqb b 0) s
+
+    go : (x : Bool) → ltb end (length s) ≡ x → unwrap_or (cond x (Some end) None) (length s) ≡ end
+    go true h = refl
+    go false h = let l = ltb-false end (length s) h in let m = prefix_len-le-length (λ b. not (eqb b 0)) s in omega arith
 
 -- The command.
 

@@ -1,15 +1,14 @@
-use native.Mathlib.Nat.{zero-add}
-use native.Mathlib.Omega.{arith}
-use mathlib.Core.Path.{◌≡◌}
-use Prim.Native.Nat.{◌-◌}
-use Rattle.challenge.proofs.get_session_challenge.Laws.{shown_part, shown_short}
+use mathlib.Core.Path.{refl}
+use borrow.Author.Tests.{tests}
+use lib.Dec.{eqb}
+use Rattle.std.proofs.Common.{rules}
+use Rattle.std.proofs.lemmas.Iterator.{YieldsList-from_slice}
+use Rattle.std.proofs.lemmas.Iterator.Search.{position_from_yields_List}
+use Rattle.challenge.proofs.get_session_challenge.Laws.{shown_part, shown_end}
 use Rattle.challenge.proofs.get_session_challenge.shown.Goals as goal
-
-pub slice_bounds-result-end : goal.slice_bounds-result-end
-slice_bounds-result-end c = omega (arith, shown_short c.args.name.now, c.first_zero-end.ensures)
 
 pub returns : goal.returns
 returns c =
-    let n = c.first_zero-end.result in
-    let z : n - 0 ≡ n = omega arith in
-    record { lies = simp zero-add; shows = rw (z, c.first_zero-end.ensures) (shown_part c.args.name.now) }
+    let s = c.args.name.now in
+    let found = position_from_yields_List (λ b. eqb b 0) _ _ c.position.result c.position.ensures.ran (YieldsList-from_slice s cc) (λ x b q k. search (rules, tests)) in
+    record { lies = refl; shows = rw (c.unwrap_or-end.ensures, shown_end s c.position.result found) (shown_part s) }

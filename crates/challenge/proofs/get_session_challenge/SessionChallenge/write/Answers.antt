@@ -4,7 +4,7 @@ use Rattle.base.specs.declared.refusal.Refusal.TheVariants.{NoForm}
 use Rattle.base.proofs.written.Laws.{refusing}
 use Rattle.challenge.proofs.get_session_challenge.SessionChallenge.write.Goals as goal
 
-pub returns-then-id-eq0 : goal.returns-then-id-eq0
-returns-then-id-eq0 c =
+pub returns-then-self-eq0 : goal.returns-then-self-eq0
+returns-then-self-eq0 c =
     let a = c.args in
     refusing NoForm a.out.now (simp (eq-eqb a.self.temporary_session_id 0 (omega arith)))
