@@ -10,27 +10,50 @@ use borrow.Rule.Slice.PartMut.{mid_of, put_mid, mid_len}
 use lib.Dec.{ltb}
 use lib.ListN.{length, get_or, take, drop, take-append-drop, length-append, length-drop, drop_of_length-le}
 use lib.Seq.{take-suc, drop-cons, drop-length, length-take-le, take_all, take_at, drop_at, drop-drop}
+use Rattle.std.specs.Prelude.{Result, Ok, Err}
 use Rattle.base.specs.Outcome.{accepted}
-use Rattle.base.specs.Text.{ascii}
-use Rattle.base.specs.Written.{Writes, written, length_of, over, said_written}
-use Rattle.base.specs.declared.written.Written.{Written}
-use Rattle.base.specs.declared.written.Written.TheVariants.{Length, Refused}
+use Rattle.base.specs.Refusal.{said}
+use Rattle.base.specs.Connection.{channel_text}
+use Rattle.base.specs.Text.{ascii, hex2}
+use Rattle.base.specs.Written.{Writes, written, length_of, over}
+use Rattle.base.specs.declared.refusal.Refusal.{Refusal}
+use Rattle.base.proofs.Outcome.{apart}
 use Rattle.base.proofs.written.Laws.{fitting, placed}
+use Rattle.info.specs.declared.get_channel_info.ChannelInfo.{ChannelInfo}
+use Rattle.media.specs.Media.{medium_text, protocol_text, session_text}
 use Rattle.lines.specs.Lines.{decimal, space}
-use Rattle.texts.specs.Appends.{Adds, Appends, wrote}
-use Rattle.texts.specs.Texts.{spaced, suites_text}
+use Rattle.texts.specs.Appends.{Appends, wrote}
+use Rattle.texts.specs.Texts.{info_text, spaced, suites_text}
 
 -- what is written where there is room
-said_length : (r : Written) (n : ℕ) → said_written r ≡ accepted n → wrote r ≡ n
-said_length (Length m) n e = cc
-said_length (Refused r) n e = let z : ◌≡◌ {A = ℕ} 0 1 = cc in absurd (omega arith)
+said_length : (r : Result ℕ Refusal) (n : ℕ) → said r ≡ accepted n → wrote r ≡ n
+said_length (Ok m) n e = cc
+said_length (Err r) n e = absurd (apart e)
 
-answered : {piece before after : List ℕ} {r : Written} → Writes (accepted piece) r before after → length piece ≤ length before → said_written r ≡ accepted (length piece)
+wrote_all : {piece before after : List ℕ} {r : Result ℕ Refusal} → Writes (accepted piece) r before after → length piece ≤ length before → wrote r ≡ length piece
 unfolding written length_of over
-answered {piece} {before} w h = w.answers ∙ simp (le-ltb (length before) (length piece) h)
+wrote_all {piece} {before} {r} w h = said_length r (length piece) (w.answers ∙ simp (le-ltb (length before) (length piece) h))
 
-pub wrote_all : {piece before after : List ℕ} {r : Written} → Writes (accepted piece) r before after → length piece ≤ length before → wrote r ≡ length piece
-wrote_all {piece} {r} w h = said_length r (length piece) (answered w h)
+-- a piece that a writer puts behind what stands
+module _ (room : ℕ) (t : List ℕ) (at : ℕ) (whole : length t ≡ room) (piece part : List ℕ) {r : Result ℕ Refusal} (w : Writes (accepted piece) r (mid_of at (room - at) t) part) (fits : at + length piece ≤ room) where
+  behind_length : length (mid_of at (room - at) t) ≡ room - at
+  behind_length = mid_len at room t (omega arith)
+
+  pub wrote_behind : wrote r ≡ length piece
+  wrote_behind = wrote_all w (rw behind_length (omega arith))
+
+  put_behind : part ≡ piece ++ drop (length piece) (mid_of at (room - at) t) → put_mid at (room - at) t part ≡ (take at t ++ piece) ++ drop (at + length piece) t
+  put_behind p =
+      let d : length (drop at t) ≤ room - at = rw length-drop (omega arith) in
+      rw (p, drop_of_length-le (drop at t) d, take_all (room - at) (drop at t) d, append-nil, drop-drop, append_assoc)
+
+  pub stands_behind : put_mid at (room - at) t part ≡ (take at t ++ piece) ++ drop (at + length piece) t
+  stands_behind = put_behind (placed w (rw behind_length (omega arith)))
+
+  pub shown : take (at + wrote r) (put_mid at (room - at) t part) ≡ take at t ++ piece
+  shown =
+      let l : length (take at t ++ piece) ≡ at + length piece = rw (length-append, length-take-le at t (omega arith)) in
+      rw (wrote_behind, stands_behind) (take_at (take at t ++ piece) (drop (at + length piece) t) (at + length piece) l)
 
 -- the whole buffer behind a piece
 pub standing : (piece before after : List ℕ) (at end : ℕ) → end ≡ at + length piece → end ≤ length before → after ≡ (take at before ++ piece) ++ drop end before → Appends piece before at after end
@@ -46,29 +69,12 @@ standing piece before after at end m f e =
       rest = rw e (drop_at (take at before ++ piece) (drop end before) end l);
     }
 
-module _ (t : List ℕ) (at : ℕ) where
-  abbrev behind : List ℕ
-  behind = mid_of at (length t - at) t
-
-  pub behind_length : at ≤ length t → length behind ≡ length t - at
-  behind_length h = mid_len at (length t) t (omega arith)
-
-  pub wrote_behind : (piece part : List ℕ) {r : Written} → Writes (accepted piece) r behind part → at + length piece ≤ length t → wrote r ≡ length piece
-  wrote_behind piece part w h = wrote_all w (rw (behind_length (omega arith)) (omega arith))
-
-  put_behind : (piece part : List ℕ) → part ≡ piece ++ drop (length piece) behind → put_mid at (length t - at) t part ≡ (take at t ++ piece) ++ drop (at + length piece) t
-  put_behind piece part p =
-      let d : length (drop at t) ≤ length t - at = rw length-drop (omega arith) in
-      rw (p, drop_of_length-le (drop at t) d, take_all (length t - at) (drop at t) d, append-nil, drop-drop, append_assoc)
-
-  -- a piece that a writer puts behind what stands
-  pub appended : (piece part : List ℕ) {r : Written} (end : ℕ) → Writes (accepted piece) r behind part → at + length piece ≤ length t → end ≡ at + wrote r
-      → Appends piece t at (put_mid at (length t - at) t part) end
-  appended piece part {r} end w h e =
-      let l = behind_length (omega arith) in
-      let n : wrote r ≡ length piece = wrote_behind piece part w h in
-      let k : end ≡ at + length piece = omega arith in
-      standing piece t (put_mid at (length t - at) t part) at end k (omega arith) (rw k (put_behind piece part (placed w (rw l (omega arith)))))
+pub appended : (t : List ℕ) (at : ℕ) (piece part : List ℕ) {r : Result ℕ Refusal} (end : ℕ) → Writes (accepted piece) r (mid_of at (length t - at) t) part → at + length piece ≤ length t → end ≡ at + wrote r
+    → Appends piece t at (put_mid at (length t - at) t part) end
+appended t at piece part {r} end w h e =
+    let n : wrote r ≡ length piece = wrote_behind (length t) t at refl piece part w h in
+    let k : end ≡ at + length piece = omega arith in
+    standing piece t (put_mid at (length t - at) t part) at end k (omega arith) (rw k (stands_behind (length t) t at refl piece part w h))
 
 -- one piece behind another
 infixl 20 ◌then◌
@@ -82,27 +88,12 @@ pub ◌then◌ : {p q before middle after : List ℕ} {at end end' : ℕ} → Ap
       rest = b.rest ∙ rw (b.moves, ← drop-drop (length q) end middle, a.rest, drop-drop (length q) end before);
     }
 
--- a piece of at most so many bytes
-pub added : (most : ℕ) (t : List ℕ) (at : ℕ) (piece part : List ℕ) {r : Written} (end : ℕ) → length piece ≤ most → at + most ≤ length t
-    → Writes (accepted piece) r (behind t at) part → end ≡ at + wrote r → Adds most piece t at (put_mid at (length t - at) t part) end
-added most t at piece part end l h w e =
-    let a = appended t at piece part end w (omega arith) e in
-    record { adds = a; small = let m = a.moves in omega arith }
-
-pub wrote_most : (most : ℕ) (t : List ℕ) (at : ℕ) (piece part : List ℕ) {r : Written} → length piece ≤ most → at + most ≤ length t
-    → Writes (accepted piece) r (behind t at) part → at + wrote r ≤ length t
-wrote_most most t at piece part l h w = let e = wrote_behind t at piece part w (omega arith) in omega arith
-
--- a text that was built from the start of an array is placed
-pub shown : {piece before after : List ℕ} {end : ℕ} {r : Written} {b a : List ℕ} → Appends piece before 0 after end → Writes (accepted (take (end - 0) after)) r b a → Writes (accepted piece) r b a
-shown {end} p w = let z : end - 0 ≡ end = omega arith in rw (z, p.holds) at w
-
 -- nothing is added
 pub still : (t : List ℕ) (at : ℕ) → at ≤ length t → Appends [] t at t at
 still t at h = record { moves = omega arith; fits = h; keeps = refl; holds = sym (append-nil (take at t)); rest = refl }
 
 -- a text that was built in the lent buffer itself
-pub written_whole : {piece before after : List ℕ} {end : ℕ} → Appends piece before 0 after end → Writes (accepted piece) (Length end) before after
+pub written_whole : {piece before after : List ℕ} {end : ℕ} → Appends piece before 0 after end → Writes (accepted piece) (Ok end) before after
 written_whole {piece} {before} {after} {end} a =
     let m : end ≡ length piece = omega arith in
     let e : after ≡ piece ++ drop (length piece) before = sym (take-append-drop end after) ∙ rw (a.holds, a.rest, m) in
@@ -138,3 +129,17 @@ room_left room part rest h = go (ltb (room - part) rest) refl
     go : (b : Bool) → ltb (room - part) rest ≡ b → ltb room (part + rest) ≡ b
     go true e = let l = ltb-true (room - part) rest e in lt-ltb room (part + rest) (omega arith)
     go false e = let l = ltb-false (room - part) rest e in le-ltb room (part + rest) (omega arith)
+
+-- sixteen pieces, one behind the other, are four fours of them
+by_fours : (a b c d e f g h i j k l m n o p : List ℕ)
+    → [] ++ a ++ b ++ c ++ d ++ e ++ f ++ g ++ h ++ i ++ j ++ k ++ l ++ m ++ n ++ o ++ p ≡ (a ++ b ++ c ++ d) ++ (e ++ f ++ g ++ h) ++ (i ++ j ++ k ++ l) ++ (m ++ n ++ o ++ p)
+by_fours a b c d e f g h i j k l m n o p = simp append_assoc
+
+pub info_line : (i : ChannelInfo)
+    → [] ++ ascii "info " ++ channel_text i.channel ++ ascii ", " ++ medium_text i.medium_type ++ ascii ", " ++ protocol_text i.protocol_type ++ ascii ", " ++ session_text i.session_support
+    ++ ascii ", " ++ decimal i.active_sessions ++ ascii " active, vendor " ++ decimal i.vendor_id ++ ascii ", aux " ++ hex2 i.aux_info.byte1 ++ ascii " " ++ hex2 i.aux_info.byte2
+    ≡ info_text i
+unfolding info_text
+info_line i =
+    by_fours (ascii "info ") (channel_text i.channel) (ascii ", ") (medium_text i.medium_type) (ascii ", ") (protocol_text i.protocol_type) (ascii ", ") (session_text i.session_support)
+    (ascii ", ") (decimal i.active_sessions) (ascii " active, vendor ") (decimal i.vendor_id) (ascii ", aux ") (hex2 i.aux_info.byte1) (ascii " ") (hex2 i.aux_info.byte2)

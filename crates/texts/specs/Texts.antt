@@ -1,10 +1,7 @@
 -- The texts of chandump's answers. Document 01, "chandump": "Counts and numbers are decimal but for Display texts and the auxiliary bytes".
-use Rattle.std.specs.Prelude.{ℕ, Bool, List, [], ◌∷◌, ◌++◌, if◌then◌else◌}
-use Rattle.std.proofs.Math.Option.{Option, none, some}
+use Rattle.std.specs.Prelude.{ℕ, Bool, List, [], ◌∷◌, ◌++◌, if◌then◌else◌, Option, Some, None}
 use Rattle.auth.specs.Auth.{auth_type_name}
 use Rattle.auth.specs.declared.AuthType.{AuthType}
-use Rattle.auth.specs.declared.AuthTypeAnswer.{AuthTypeAnswer}
-use Rattle.auth.specs.declared.AuthTypeAnswer.TheVariants as Answer
 use Rattle.base.specs.Connection.{channel_text}
 use Rattle.base.specs.Text.{ascii, hex2}
 use Rattle.access.specs.GetChannelAccess.{limit_text, mode_text}
@@ -36,13 +33,8 @@ access_text a =
 
 -- "`cap` prints the crate's AuthType name or `-`"
 abbrev pub name_or : Option AuthType → List ℕ
-name_or (some kind) = auth_type_name kind
-name_or none = ascii "-"
-
--- the type that was answered
-abbrev pub chosen : AuthTypeAnswer → Option AuthType
-chosen (Answer.AuthType kind) = some kind
-chosen Answer.Nothing = none
+name_or (Some kind) = auth_type_name kind
+name_or None = ascii "-"
 
 -- the line that answers `cap`
 unfoldable pub auth_text : Option AuthType → List ℕ

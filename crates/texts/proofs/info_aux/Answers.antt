@@ -1,8 +1,0 @@
-use native.Mathlib.Omega.{arith}
-use Rattle.texts.proofs.Laws.{◌then◌}
-use Rattle.texts.proofs.info_aux.Goals as goal
-
-pub returns : goal.returns
-returns c =
-    let a = c.put-first.ensures then c.put_hex-second.ensures.adds then c.put-third.ensures then c.put_hex.ensures.adds in
-    record { adds = a; small = omega arith }
