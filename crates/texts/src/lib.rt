@@ -163,14 +163,12 @@ fn lacks(numbers: &[u8], room: usize) -> bool
         return true;
     }
     let mut left = room - 6;
-    let mut i: usize = 0;
-    while i < numbers.len() {
-        let wide = width(numbers[i]);
+    for n in numbers {
+        let wide = width(*n);
         if left < wide {
             return true;
         }
         left -= wide;
-        i += 1;
     }
     false
 }
@@ -183,10 +181,8 @@ pub fn suites_text(numbers: &[u8], out: &mut [u8]) -> Result<usize, Refusal>
         return Err(Refusal::NoRoom);
     }
     let mut at = put(b"suites", out, 0);
-    let mut i: usize = 0;
-    while i < numbers.len() {
-        at = put_spaced(numbers[i], out, at);
-        i += 1;
+    for n in numbers {
+        at = put_spaced(*n, out, at);
     }
     Ok(at)
 }

@@ -17,25 +17,25 @@ put-at-requires c =
     let l = suites_length c.args.numbers.now in
     omega arith
 
-pub loop-i-init : goal.loop-i-init
+pub loop-n-init : goal.loop-n-init
 unfolding spaced
-loop-i-init c =
+loop-n-init c =
     let h = ltb-false (length c.args.out.now) (length (suites_text c.args.numbers.now)) (sym c.lacks.ensures ∙ c.if-lacks.false) in
     let l = suites_length c.args.numbers.now in
     ((omega arith, omega arith), still c.put-at.new.into c.put-at.result (omega arith))
 
 pub put_spaced-at-requires : goal.put_spaced-at-requires
 put_spaced-at-requires c =
-    let e = spaced_rest c.args.numbers.now c.loop-i.i (omega arith) in
+    let e = spaced_rest c.args.numbers.now c.loop-n.n-index (omega arith) in
     omega arith
 
-pub loop-i-preserved : goal.loop-i-preserved
-loop-i-preserved c =
-    let e = spaced_rest c.args.numbers.now c.loop-i.i (omega arith) in
-    ((omega arith, omega arith), rw (spaced_next c.args.numbers.now c.loop-i.i (omega arith)) (c.loop-i.invariant.1 then c.put_spaced-at.ensures))
+pub loop-n-preserved : goal.loop-n-preserved
+loop-n-preserved c =
+    let e = spaced_rest c.args.numbers.now c.loop-n.n-index (omega arith) in
+    ((omega arith, omega arith), rw (spaced_next c.args.numbers.now c.loop-n.n-index (omega arith)) (c.loop-n.invariant.1 then c.put_spaced-at.ensures))
 
 pub returns : goal.returns
 unfolding suites_text
 returns c =
-    let e : spaced (take c.loop-i.i c.args.numbers.now) ≡ spaced c.args.numbers.now = ap spaced (take_all c.loop-i.i c.args.numbers.now (omega arith)) in
-    written_whole (c.put-at.ensures then (rw e at c.loop-i.invariant.1))
+    let e : spaced (take c.loop-n.n-index c.args.numbers.now) ≡ spaced c.args.numbers.now = ap spaced (take_all c.loop-n.n-index c.args.numbers.now (omega arith)) in
+    written_whole (c.put-at.ensures then (rw e at c.loop-n.invariant.1))
