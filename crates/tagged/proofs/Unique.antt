@@ -2,13 +2,13 @@
 use mathlib.Core.Path.{refl}
 use Rattle.base.proofs.Unique.{Unique, both, writer}
 use Rattle.tagged.proofs as p
-use Rattle.tagged.proofs.Said.{count_one, step_one}
+use Rattle.base.proofs.Said.{said_one}
 
 pub step_at_unique : Unique p.tagged_records.step_at.Kinds.ps p.tagged_records.step_at.Kinds.r p.tagged_records.step_at.Reads.Asked p.tagged_records.step_at.Reads.Learnt
-step_at_unique κs a ok z z' w w' q q' = (step_one z z' (both q q'), refl)
+step_at_unique κs a ok z z' w w' q q' = (said_one z z' (both q q'), refl)
 
 pub count_unique : Unique p.tagged_records.count.Kinds.ps p.tagged_records.count.Kinds.r p.tagged_records.count.Reads.Asked p.tagged_records.count.Reads.Learnt
-count_unique κs a ok z z' w w' q q' = (count_one z z' (both q q'), refl)
+count_unique κs a ok z z' w w' q q' = (said_one z z' (both q q'), refl)
 
 pub suite_numbers_unique : Unique p.tagged_records.suite_numbers.Kinds.ps p.tagged_records.suite_numbers.Kinds.r p.tagged_records.suite_numbers.Reads.Asked p.tagged_records.suite_numbers.Reads.Learnt
 suite_numbers_unique κs a ok z z' w w' q q' = writer 1 q q'

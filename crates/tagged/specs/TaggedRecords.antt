@@ -1,48 +1,18 @@
 -- Reading and writing records with their tags. Document 02, C-14. A place is counted from the front of the lent list.
-use Rattle.std.specs.Prelude.{ℕ, zero, suc, ◌+◌, List, [], ◌∷◌, ◌++◌, map, length, take, drop, if◌then◌else◌}
-use Rattle.std.proofs.Math.Option.{Option, none, some}
+use Rattle.std.specs.Prelude.{Option, None, Some, ℕ, zero, suc, ◌+◌, List, [], ◌∷◌, ◌++◌, map, length, take, drop, if◌then◌else◌}
 use Rattle.std.proofs.Math.Seq.{slice}
 use Rattle.base.specs.Choice.{◌<?◌, ◌=?◌}
 use Rattle.base.specs.Field.{bits, byte}
 use Rattle.base.specs.Little.{little, little_bytes}
 use Rattle.base.specs.Outcome.{Outcome, accepted, refused, ◌>>=◌}
 use Rattle.tagged.specs.Format.{Suite, authentication_tag, confidentiality_tag, fits, integrity_tag, number_bits, own_start, standard_start, suite_bytes, tagged, vendor_bytes}
-use Rattle.tagged.specs.declared.tagged_records.CountAnswer.{CountAnswer}
-use Rattle.tagged.specs.declared.tagged_records.CountAnswer.TheVariants as CountAnswers
-use Rattle.tagged.specs.declared.tagged_records.EndAnswer.{EndAnswer}
-use Rattle.tagged.specs.declared.tagged_records.EndAnswer.TheVariants as EndAnswers
 use Rattle.tagged.specs.declared.tagged_records.Owner.{Owner}
 use Rattle.tagged.specs.declared.tagged_records.Owner.TheVariants.{Standard, Vendor}
-use Rattle.tagged.specs.declared.tagged_records.RecordAnswer.{RecordAnswer}
-use Rattle.tagged.specs.declared.tagged_records.RecordAnswer.TheVariants as RecordAnswers
-use Rattle.tagged.specs.declared.tagged_records.StepAnswer.{StepAnswer}
-use Rattle.tagged.specs.declared.tagged_records.StepAnswer.TheVariants as StepAnswers
 use Rattle.tagged.specs.declared.tagged_records.TaggedRecord.{TaggedRecord}
 
 -- "16 BadRecord with the place"
 abbrev pub bad_record : {A : Type 0} → ℕ → Outcome A
 bad_record place = refused 16 (place ∷ [])
-
--- each case's outcome
-abbrev pub said_record : RecordAnswer → Outcome TaggedRecord
-said_record (RecordAnswers.Record r) = accepted r
-said_record (RecordAnswers.BadRecord place) = bad_record place
-
--- each case's outcome; at the end there is no record, which counts as accepted
-abbrev pub said_step : StepAnswer → Outcome (Option TaggedRecord)
-said_step (StepAnswers.Record r) = accepted (some r)
-said_step StepAnswers.End = accepted none
-said_step (StepAnswers.BadRecord place) = bad_record place
-
--- each case's outcome
-abbrev pub said_count : CountAnswer → Outcome ℕ
-said_count (CountAnswers.Count n) = accepted n
-said_count (CountAnswers.BadRecord place) = bad_record place
-
--- each case's outcome
-abbrev pub said_end : EndAnswer → Outcome ℕ
-said_end (EndAnswers.End end) = accepted end
-said_end (EndAnswers.BadRecord place) = bad_record place
 
 -- A record.
 
@@ -66,9 +36,9 @@ reach tag list at = at + run tag (drop at list)
 -- whose suite a record is by its first byte, "C0h .. or C1h"; none: no record begins so. The vendor number is "three-byte .., low first"
 abbrev pub owner_at : List ℕ → ℕ → Option Owner
 owner_at list position =
-    if byte position list =? standard_start then some Standard else
-    if byte position list =? own_start then some (Vendor (little (byte (position + 2) list ∷ byte (position + 3) list ∷ byte (position + 4) list ∷ []))) else
-    none
+    if byte position list =? standard_start then Some Standard else
+    if byte position list =? own_start then Some (Vendor (little (byte (position + 2) list ∷ byte (position + 3) list ∷ byte (position + 4) list ∷ []))) else
+    None
 
 -- the bytes before the authentication byte: the first, the number, a vendor's three
 abbrev pub start_length : Owner → ℕ
@@ -96,8 +66,8 @@ body_at list owner number at =
 
 -- any number and any vendor number will do
 abbrev pub start_at : List ℕ → ℕ → Option Owner → Outcome TaggedRecord
-start_at list position none = bad_record position
-start_at list position (some owner) = body_at list owner (byte (position + 1) list) (position + start_length owner)
+start_at list position None = bad_record position
+start_at list position (Some owner) = body_at list owner (byte (position + 1) list) (position + start_length owner)
 
 -- the record that begins at a position
 abbrev pub record_at : List ℕ → ℕ → Outcome TaggedRecord
@@ -113,8 +83,8 @@ end_of o = do
 abbrev pub strict_step_at : List ℕ → ℕ → Outcome (Option TaggedRecord)
 strict_step_at list position = if position <? length list then (do
   r ← record_at list position
-  accepted (some r)) else
-    accepted none
+  accepted (Some r)) else
+    accepted None
 
 -- A sequence.
 

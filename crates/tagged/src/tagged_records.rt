@@ -1,16 +1,16 @@
 // The standard's cipher suite records, read strictly and written: document 02, C-14; IPMI 2.0, Table 22-18.
 ghost use Rattle.std.specs.Prelude.{◌≡◌, [], ◌∷◌, ◌++◌, suc, ◌+◌, ◌<◌, ◌≤◌, length, take, true, if◌then◌else◌};
-ghost use Rattle.tagged.specs.Format.{all_fit, confidentiality_tag, integrity_tag, own_start, owner_fits, standard_start, start_bytes};
-ghost use Rattle.tagged.specs.TaggedRecords.{body_at, count_of, end_of, entry, listing_of, numbers_in, reach, record_at, retagged, said_count, said_end, said_record, said_step, start_length, strict_numbers_of, strict_step_at, suite_from, suite_written};
+ghost use Rattle.tagged.specs.Format.{all_fit, confidentiality_tag, integrity_tag, own_start, owner_fits, standard_start};
+ghost use Rattle.tagged.specs.TaggedRecords.{body_at, count_of, end_of, entry, listing_of, numbers_in, reach, record_at, retagged, strict_numbers_of, strict_step_at, suite_from, suite_written};
 ghost use Rattle.base.specs.Choice.{◌=?◌};
 ghost use Rattle.base.specs.Field.{byte};
 ghost use Rattle.base.specs.Outcome.{accepted};
 ghost use Rattle.tagged.specs.declared.tagged_records.TaggedRecord.{TaggedRecord};
+ghost use Rattle.base.specs.Refusal.{said};
 ghost use Rattle.base.specs.Written.{Writes};
 
-use base::little::{bytes3, number3};
+use base::little;
 use base::refusal::Refusal;
-use base::written::{Written, place};
 
 // Whose suite a record is: the standard's, or a vendor's own with the vendor's number.
 #[derive(Clone, Copy)]
@@ -29,33 +29,6 @@ pub struct TaggedRecord {
     pub integrity: usize,
     pub confidentiality: usize,
     pub end: usize,
-}
-
-// The place is the first byte's from which on no bytes make a sequence of records, or the length if only the end is missing.
-#[derive(Drop)]
-enum RecordAnswer {
-    Record(TaggedRecord),
-    BadRecord(usize),
-}
-
-#[derive(Drop)]
-pub enum StepAnswer {
-    Record(TaggedRecord),
-    End,
-    BadRecord(usize),
-}
-
-#[derive(Drop)]
-pub enum CountAnswer {
-    Count(usize),
-    BadRecord(usize),
-}
-
-// Where a record ends, or the place as above.
-#[derive(Drop)]
-enum EndAnswer {
-    End(usize),
-    BadRecord(usize),
 }
 
 // The first byte of a standard suite's record, and of a vendor's own.
@@ -88,33 +61,31 @@ const VENDORS: u32 = 0x100_0000;
 
 // Where the bytes with a tag end that begin at a place.
 fn reach(list: &[u8], tag: u8, at: usize) -> usize
-    ensures { result ≡ reach tag list.now at }
+    requires { at ≤ length list.now }
+    ensures { (result ≡ reach tag list.now at) × (result ≤ length list.now) }
 {
-    let mut i = at;
-    while i < list.len() {
-        if list[i] / NUMBERS != tag {
-            return i;
-        }
-        i += 1;
+    match list[at..].iter().position(|byte| *byte / NUMBERS != tag) {
+        Some(n) => at + n,
+        None => list.len(),
     }
-    i
 }
 
-// A record from its authentication byte on.
-fn body_at(list: &[u8], owner: Owner, number: u8, at: usize) -> RecordAnswer
-    ensures { said_record result ≡ body_at list.now owner number at }
+// A record from its authentication byte on. The place that `BadRecord` carries is the first byte's from which on no bytes make a
+// sequence of records, or the length if only the end is missing.
+fn body_at(list: &[u8], owner: Owner, number: u8, at: usize) -> Result<TaggedRecord, Refusal>
+    ensures { said result ≡ body_at list.now owner number at }
 {
     if list.len() <= at {
-        return RecordAnswer::BadRecord(list.len());
+        return Err(Refusal::BadRecord(list.len()));
     }
     let authentication = list[at];
     let integrity = at + 1;
     if authentication / NUMBERS != AUTHENTICATION {
-        return RecordAnswer::BadRecord(at);
+        return Err(Refusal::BadRecord(at));
     }
     let confidentiality = reach(list, INTEGRITY, integrity);
     let end = reach(list, CONFIDENTIALITY, confidentiality);
-    RecordAnswer::Record(TaggedRecord {
+    Ok(TaggedRecord {
         owner,
         number,
         authentication,
@@ -125,44 +96,46 @@ fn body_at(list: &[u8], owner: Owner, number: u8, at: usize) -> RecordAnswer
 }
 
 // The record that begins at a position.
-fn record_at(list: &[u8], position: usize) -> RecordAnswer
-    ensures { said_record result ≡ record_at list.now position }
+fn record_at(list: &[u8], position: usize) -> Result<TaggedRecord, Refusal>
+    ensures { said result ≡ record_at list.now position }
 {
     if list.len() <= position {
-        return RecordAnswer::BadRecord(position);
+        return Err(Refusal::BadRecord(position));
     }
     let left = list.len() - position;
     match list[position] {
         STANDARD => {
             if left <= STANDARD_START {
-                return RecordAnswer::BadRecord(list.len());
+                return Err(Refusal::BadRecord(list.len()));
             }
             let number = list[position + 1];
             body_at(list, Owner::Standard, number, position + STANDARD_START)
         }
         OWN => {
             if left <= OWN_START {
-                return RecordAnswer::BadRecord(list.len());
+                return Err(Refusal::BadRecord(list.len()));
             }
             let number = list[position + 1];
-            let vendor = number3(list[position + 2], list[position + 3], list[position + 4]);
+            let vendor = little::number([
+                list[position + 2],
+                list[position + 3],
+                list[position + 4],
+                0,
+            ]);
             body_at(list, Owner::Vendor(vendor), number, position + OWN_START)
         }
-        _ => RecordAnswer::BadRecord(position),
+        _ => Err(Refusal::BadRecord(position)),
     }
 }
 
 // A step of the reading: the record at a position of the list, none at the end or past it.
-pub fn step_at(list: &[u8], position: usize) -> StepAnswer
-    ensures { said_step result ≡ strict_step_at list.now position }
+pub fn step_at(list: &[u8], position: usize) -> Result<Option<TaggedRecord>, Refusal>
+    ensures { said result ≡ strict_step_at list.now position }
 {
     if list.len() <= position {
-        return StepAnswer::End;
+        return Ok(None);
     }
-    match record_at(list, position) {
-        RecordAnswer::Record(record) => StepAnswer::Record(record),
-        RecordAnswer::BadRecord(place) => StepAnswer::BadRecord(place),
-    }
+    Ok(Some(record_at(list, position)?))
 }
 
 // Whether the record there is such a one: what most lists have. Behind it another may begin, or the list ends.
@@ -206,46 +179,39 @@ fn start_of(first: u8) -> usize
 }
 
 // The end of the record that begins at a position. No record is made; one body, so that it is compiled into the loops.
-fn end_at(list: &[u8], position: usize) -> EndAnswer
+fn end_at(list: &[u8], position: usize) -> Result<usize, Refusal>
     requires { position < length list.now }
-    ensures { said_end result ≡ end_of (record_at list.now position) }
+    ensures { said result ≡ end_of (record_at list.now position) }
 {
     if is_plain(list, position) {
-        return EndAnswer::End(position + PLAIN);
+        return Ok(position + PLAIN);
     }
     let start = start_of(list[position]);
     if start == 0 {
-        return EndAnswer::BadRecord(position);
+        return Err(Refusal::BadRecord(position));
     }
     if list.len() - position <= start {
-        return EndAnswer::BadRecord(list.len());
+        return Err(Refusal::BadRecord(list.len()));
     }
-    let at = position + start;
-    if list[at] / NUMBERS != AUTHENTICATION {
-        return EndAnswer::BadRecord(at);
+    let body = position + start;
+    if list[body] / NUMBERS != AUTHENTICATION {
+        return Err(Refusal::BadRecord(body));
     }
-    let confidentiality = reach(list, INTEGRITY, at + 1);
-    EndAnswer::End(reach(list, CONFIDENTIALITY, confidentiality))
+    let confidentiality = reach(list, INTEGRITY, body + 1);
+    Ok(reach(list, CONFIDENTIALITY, confidentiality))
 }
 
 // How many records the list has.
-pub fn count(list: &[u8]) -> CountAnswer
-    ensures { said_count result ≡ count_of list.now }
+pub fn count(list: &[u8]) -> Result<usize, Refusal>
+    ensures { said result ≡ count_of list.now }
 {
     let mut n: usize = 0;
     let mut at: usize = 0;
     while at < list.len() {
-        match end_at(list, at) {
-            EndAnswer::End(end) => {
-                n += 1;
-                at = end;
-            }
-            EndAnswer::BadRecord(place) => {
-                return CountAnswer::BadRecord(place);
-            }
-        }
+        at = end_at(list, at)?;
+        n += 1;
     }
-    CountAnswer::Count(n)
+    Ok(n)
 }
 
 // A suite in the listing: its number, whether it is a vendor's own, and the vendor's number.
@@ -257,7 +223,7 @@ pub fn entry(suite: TaggedRecord) -> [u8; ENTRY]
     match owner {
         Owner::Standard => [number, 0, 0, 0, 0],
         Owner::Vendor(vendor) => {
-            let v = bytes3(vendor);
+            let v = little::bytes::<3>(vendor as u64);
             [number, 1, v[0], v[1], v[2]]
         }
     }
@@ -275,92 +241,69 @@ fn entry_at(list: &[u8], at: usize) -> [u8; ENTRY]
 }
 
 // The suite numbers of a sequence: of all records, in order.
-pub fn suite_numbers(list: &[u8], out: &mut [u8]) -> Written
+pub fn suite_numbers(list: &[u8], out: &mut [u8]) -> Result<usize, Refusal>
     ensures { Writes (strict_numbers_of list.now) result out.old out.new }
 {
-    let n = match count(list) {
-        CountAnswer::Count(n) => n,
-        CountAnswer::BadRecord(place) => {
-            return Written::Refused(Refusal::BadRecord(place));
-        }
-    };
+    let n = count(list)?;
     if out.len() < n {
-        return Written::Refused(Refusal::NoRoom);
+        return Err(Refusal::NoRoom);
     }
     let mut position: usize = 0;
     let mut i: usize = 0;
     while position < list.len() {
-        let EndAnswer::End(end) = end_at(list, position) else {
-            return Written::Length(i);
-        };
+        let end = end_at(list, position)?;
         out[i] = list[position + 1];
         i += 1;
         position = end;
     }
-    Written::Length(i)
+    Ok(i)
 }
 
 // The listing of a sequence, five bytes a record: its number, 0 for a standard suite or 1 for a vendor's own, and the
 // vendor's number, low byte first.
-pub fn suite_listing(list: &[u8], out: &mut [u8]) -> Written
+pub fn suite_listing(list: &[u8], out: &mut [u8]) -> Result<usize, Refusal>
     ensures { Writes (listing_of list.now) result out.old out.new }
 {
-    let n = match count(list) {
-        CountAnswer::Count(n) => n,
-        CountAnswer::BadRecord(place) => {
-            return Written::Refused(Refusal::BadRecord(place));
-        }
-    };
+    let n = count(list)?;
     if out.len() / ENTRY < n {
-        return Written::Refused(Refusal::NoRoom);
+        return Err(Refusal::NoRoom);
     }
     let mut from: usize = 0;
     let mut length: usize = 0;
     while from < list.len() {
-        let EndAnswer::End(end) = end_at(list, from) else {
-            return Written::Length(length);
-        };
-        place(&entry_at(list, from), &mut out[length..]);
+        let end = end_at(list, from)?;
+        out[length..length + ENTRY].copy_from_slice(&entry_at(list, from));
         length += ENTRY;
         from = end;
     }
-    Written::Length(length)
+    Ok(length)
 }
 
 // The numbers of algorithm bytes, or numbers, each under a tag.
-fn retagged(bytes: &[u8], tag: u8, out: &mut [u8]) -> Written
-    requires { tag ≤ 3 }
-    ensures { Writes (accepted (retagged tag bytes.now)) result out.old out.new }
+fn put_tagged(bytes: &[u8], tag: u8, out: &mut [u8])
+    requires { (tag ≤ 3) × (length bytes.now ≡ length out.now) }
+    ensures { out.new ≡ retagged tag bytes.now }
 {
-    if out.len() < bytes.len() {
-        return Written::Refused(Refusal::NoRoom);
+    for (i, byte) in bytes.iter().enumerate() {
+        out[i] = tag * NUMBERS + *byte % NUMBERS;
     }
-    let mut i: usize = 0;
-    while i < bytes.len() {
-        out[i] = tag * NUMBERS + bytes[i] % NUMBERS;
-        i += 1;
-    }
-    Written::Length(bytes.len())
 }
 
 // The numbers of a record's integrity or confidentiality bytes, as `write` takes them.
-pub fn algorithm_numbers(bytes: &[u8], out: &mut [u8]) -> Written
+pub fn algorithm_numbers(bytes: &[u8], out: &mut [u8]) -> Result<usize, Refusal>
     ensures { Writes (accepted (numbers_in bytes.now)) result out.old out.new }
 {
-    retagged(bytes, AUTHENTICATION, out)
+    if out.len() < bytes.len() {
+        return Err(Refusal::NoRoom);
+    }
+    put_tagged(bytes, AUTHENTICATION, &mut out[..bytes.len()]);
+    Ok(bytes.len())
 }
 
 fn all_fit(numbers: &[u8]) -> bool
     ensures { result ≡ all_fit numbers.now }
 {
-    let mut i: usize = 0;
-    while i < numbers.len() {
-        if NUMBERS <= numbers[i] {
-            return false;
-        }
-        i += 1;
-    }
-    true
+    numbers.iter().all(|number| *number < NUMBERS)
 }
 
 fn owner_fits(owner: Owner) -> bool
@@ -372,49 +315,30 @@ fn owner_fits(owner: Owner) -> bool
     }
 }
 
-// A record's bytes up to its authentication byte, `length` of them.
-#[derive(Drop)]
-struct Head {
-    bytes: [u8; OWN_START + 1],
-    length: usize,
-}
-
-fn head_of(owner: Owner, number: u8, authentication: u8) -> Head
-    ensures { (result.length ≡ suc (start_length owner)) × (take result.length result.bytes ≡ start_bytes owner number ++ (authentication ∷ [])) }
-{
-    match owner {
-        Owner::Standard => Head {
-            bytes: [STANDARD, number, authentication, 0, 0, 0],
-            length: STANDARD_START + 1,
-        },
-        Owner::Vendor(vendor) => {
-            let v = bytes3(vendor);
-            Head {
-                bytes: [OWN, number, v[0], v[1], v[2], authentication],
-                length: OWN_START + 1,
-            }
-        }
-    }
-}
-
 // The parts of a record one behind the other.
-fn write_parts(head: &[u8], integrity: &[u8], confidentiality: &[u8], out: &mut [u8]) -> Written
+fn write_parts(
+    head: &[u8],
+    integrity: &[u8],
+    confidentiality: &[u8],
+    out: &mut [u8],
+) -> Result<usize, Refusal>
     ensures { Writes (accepted (head.now ++ (retagged integrity_tag integrity.now ++ retagged confidentiality_tag confidentiality.now))) result out.old out.new }
 {
     if out.len() < head.len() {
-        return Written::Refused(Refusal::NoRoom);
+        return Err(Refusal::NoRoom);
     }
     if out.len() - head.len() < integrity.len() {
-        return Written::Refused(Refusal::NoRoom);
+        return Err(Refusal::NoRoom);
     }
     let at = head.len() + integrity.len();
     if out.len() - at < confidentiality.len() {
-        return Written::Refused(Refusal::NoRoom);
+        return Err(Refusal::NoRoom);
     }
-    place(head, out);
-    retagged(integrity, INTEGRITY, &mut out[head.len()..]);
-    retagged(confidentiality, CONFIDENTIALITY, &mut out[at..]);
-    Written::Length(at + confidentiality.len())
+    let end = at + confidentiality.len();
+    out[..head.len()].copy_from_slice(head);
+    put_tagged(integrity, INTEGRITY, &mut out[head.len()..at]);
+    put_tagged(confidentiality, CONFIDENTIALITY, &mut out[at..end]);
+    Ok(end)
 }
 
 // A record's bytes, its integrity and confidentiality given as numbers.
@@ -425,23 +349,36 @@ pub fn write(
     integrity: &[u8],
     confidentiality: &[u8],
     out: &mut [u8],
-) -> Written
+) -> Result<usize, Refusal>
     ensures { Writes (suite_written (suite_from owner number authentication integrity.now confidentiality.now)) result out.old out.new }
 {
     if !owner_fits(owner) {
-        return Written::Refused(Refusal::NoForm);
+        return Err(Refusal::NoForm);
     }
     if NUMBERS <= authentication {
-        return Written::Refused(Refusal::NoForm);
+        return Err(Refusal::NoForm);
     }
     if !all_fit(integrity) {
-        return Written::Refused(Refusal::NoForm);
+        return Err(Refusal::NoForm);
     }
     if !all_fit(confidentiality) {
-        return Written::Refused(Refusal::NoForm);
+        return Err(Refusal::NoForm);
     }
-    let head = head_of(owner, number, authentication);
-    let bytes = head.bytes;
-    let length = head.length;
-    write_parts(&bytes[0..length], integrity, confidentiality, out)
+    match owner {
+        Owner::Standard => write_parts(
+            &[STANDARD, number, authentication],
+            integrity,
+            confidentiality,
+            out,
+        ),
+        Owner::Vendor(vendor) => {
+            let v = little::bytes::<3>(vendor as u64);
+            write_parts(
+                &[OWN, number, v[0], v[1], v[2], authentication],
+                integrity,
+                confidentiality,
+                out,
+            )
+        }
+    }
 }

@@ -2,14 +2,13 @@
 use mathlib.Core.Path.{◌≡◌, refl, sym, ◌∙◌, ap}
 use mathlib.Core.Bool.{Bool, true, false}
 use mathlib.Core.List.{List, [], ◌∷◌, ◌++◌, map, append_assoc}
-use mathlib.Core.Option.{Option, none, some}
 use Prim.Native.Nat.{ℕ, zero, suc, ◌+◌, ◌/◌, ◌%◌, ◌^◌, ◌≤◌, ◌<◌}
 use native.Mathlib.Omega.{arith}
 use borrow.Author.Tests.{eq-eqb, ne_eqb, eqb-true, eqb-false, lt-ltb, ltb-true}
 use lib.Dec.{eqb, ltb}
 use lib.ListN.{length, take, drop, length-drop, length-map, take-append-drop}
 use lib.Seq.{slice, drop-cons, drop-drop, drop_at, take_at, take-nil, get_or-drop}
-use Rattle.std.specs.Prelude.{if◌then◌else◌}
+use Rattle.std.specs.Prelude.{Option, None, Some, if◌then◌else◌}
 use Rattle.base.specs.Field.{Bytes, byte}
 use Rattle.base.specs.Little.{little}
 use Rattle.base.specs.Outcome.{Outcome, accepted}
@@ -99,16 +98,16 @@ slice_take (suc f) k (x ∷ s) = let z : suc f + k ≡ suc (f + k) = omega arith
 
 -- What begins at a position, by its first byte.
 pub data Start (list : List ℕ) (p : ℕ) : Option Owner → Type 0 where
-  standard : byte p list ≡ standard_start → Start list p (some Standard)
-  own : byte p list ≡ own_start → Start list p (some (Vendor (little (byte (p + 2) list ∷ byte (p + 3) list ∷ byte (p + 4) list ∷ []))))
-  neither : (byte p list ≡ standard_start → ⊥) → (byte p list ≡ own_start → ⊥) → Start list p none
+  standard : byte p list ≡ standard_start → Start list p (Some Standard)
+  own : byte p list ≡ own_start → Start list p (Some (Vendor (little (byte (p + 2) list ∷ byte (p + 3) list ∷ byte (p + 4) list ∷ []))))
+  neither : (byte p list ≡ standard_start → ⊥) → (byte p list ≡ own_start → ⊥) → Start list p None
 
 module _ (list : List ℕ) (p : ℕ) where
   pub start : Start list p (owner_at list p)
   start = go (eqb (byte p list) standard_start) (eqb (byte p list) own_start) refl refl
     where
       go : (x y : Bool) → eqb (byte p list) standard_start ≡ x → eqb (byte p list) own_start ≡ y
-          → Start list p (if x then some Standard else if y then some (Vendor (little (byte (p + 2) list ∷ byte (p + 3) list ∷ byte (p + 4) list ∷ []))) else none)
+          → Start list p (if x then Some Standard else if y then Some (Vendor (little (byte (p + 2) list ∷ byte (p + 3) list ∷ byte (p + 4) list ∷ []))) else None)
       go true y e f = standard (eqb-true _ _ e)
       go false true e f = own (eqb-true _ _ f)
       go false false e f = neither (eqb-false _ _ e) (eqb-false _ _ f)
@@ -125,7 +124,7 @@ module _ (list : List ℕ) (b : Bytes list) where
   vendor_bytes_lem : (p : ℕ) → Bytes (byte (p + 2) list ∷ byte (p + 3) list ∷ byte (p + 4) list ∷ [])
   vendor_bytes_lem p = (a_byte list b (p + 2), (a_byte list b (p + 3), (a_byte list b (p + 4), tt)))
 
-  pub start_bytes_lem : (p : ℕ) (owner : Owner) → Start list p (some owner) → p + start_length owner < length list
+  pub start_bytes_lem : (p : ℕ) (owner : Owner) → Start list p (Some owner) → p + start_length owner < length list
       → drop p list ≡ start_bytes owner (byte (p + 1) list) ++ drop (p + start_length owner) list
   start_bytes_lem p owner (standard e) h =
       let z : p + 1 + 1 ≡ p + 2 = omega arith in
@@ -138,7 +137,7 @@ module _ (list : List ℕ) (b : Bytes list) where
       let v = bytes_back (byte (p + 2) list ∷ byte (p + 3) list ∷ byte (p + 4) list ∷ []) (vendor_bytes_lem p) in
       rw (next list p (omega arith), next list (p + 1) (omega arith), two, next list (p + 2) (omega arith), three, next list (p + 3) (omega arith), four, next list (p + 4) (omega arith), five, e) (ap (λ (x : List ℕ). own_start ∷ byte (p + 1) list ∷ (x ++ drop (p + 5) list)) (sym v))
 
-  pub owner_fits_lem : (p : ℕ) (owner : Owner) → Start list p (some owner) → owner_fits owner ≡ true
+  pub owner_fits_lem : (p : ℕ) (owner : Owner) → Start list p (Some owner) → owner_fits owner ≡ true
   owner_fits_lem p owner (standard e) = refl
   owner_fits_lem p owner (own e) = lt-ltb _ _ (number_fits (byte (p + 2) list ∷ byte (p + 3) list ∷ byte (p + 4) list ∷ []) (vendor_bytes_lem p))
 
@@ -169,7 +168,7 @@ module _ (list : List ℕ) (b : Bytes list) where
     pub confidentiality_ends : run confidentiality_tag (drop r.end list) ≡ 0
     pub integrity_ends : run integrity_tag (map (tagged confidentiality_tag) (suite_in list r).confidentiality ++ drop r.end list) ≡ 0
 
-  pub with_is : (p : ℕ) (owner : Owner) → Start list p (some owner) → p + start_length owner < length list → tag_in (byte (p + start_length owner) list) ≡ authentication_tag
+  pub with_is : (p : ℕ) (owner : Owner) → Start list p (Some owner) → p + start_length owner < length list → tag_in (byte (p + start_length owner) list) ≡ authentication_tag
       → Is p (record_with list owner (byte (p + 1) list) (p + start_length owner))
   with_is p owner s h e =
       let at = p + start_length owner in
@@ -233,7 +232,7 @@ module _ (list : List ℕ) where
   at_place p k = sym (get_or-drop p list k 0)
 
   pub start_back : (p : ℕ) (owner : Owner) (n : ℕ) (rest : List ℕ) → owner_fits owner ≡ true → drop p list ≡ start_bytes owner n ++ rest
-      → (owner_at list p ≡ some owner) × (byte (p + 1) list ≡ n) × (drop (p + start_length owner) list ≡ rest)
+      → (owner_at list p ≡ Some owner) × (byte (p + 1) list ≡ n) × (drop (p + start_length owner) list ≡ rest)
   start_back p Standard n rest f e =
       let z : p + 0 ≡ p = omega arith in
       let first : byte p list ≡ standard_start = rw z at (at_place p 0 ∙ ap (byte 0) e) in
@@ -244,7 +243,7 @@ module _ (list : List ℕ) where
       let low : byte (p + 2) list ≡ v % 256 = at_place p 2 ∙ ap (byte 2) e in
       let middle : byte (p + 3) list ≡ v / 256 % 256 = at_place p 3 ∙ ap (byte 3) e in
       let high : byte (p + 4) list ≡ v / 256 / 256 % 256 = at_place p 4 ∙ ap (byte 4) e in
-      (rw (first, low, middle, high) (ap (λ (x : ℕ). some (Vendor x)) (number_back 3 v (ltb-true v (256 ^ 3) f))), at_place p 1 ∙ ap (byte 1) e, sym (drop-drop 5 p list) ∙ ap (drop 5) e)
+      (rw (first, low, middle, high) (ap (λ (x : ℕ). Some (Vendor x)) (number_back 3 v (ltb-true v (256 ^ 3) f))), at_place p 1 ∙ ap (byte 1) e, sym (drop-drop 5 p list) ∙ ap (drop 5) e)
 
   body_back : (p at : ℕ) (owner : Owner) (n a : ℕ) (i c rest : List ℕ) → fits (suite_from owner n a i c) ≡ true → run confidentiality_tag rest ≡ 0
       → run integrity_tag (map (tagged confidentiality_tag) c ++ rest) ≡ 0 → p ≤ at → drop at list ≡ algorithm_bytes a i c ++ rest

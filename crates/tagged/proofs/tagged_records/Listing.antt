@@ -1,23 +1,22 @@
 -- Laws of the listing: how long it is, and a turn of the loop that writes it.
 use mathlib.Core.Path.{◌≡◌, refl, sym, ◌∙◌, ap}
 use mathlib.Core.List.{List, [], ◌∷◌, ◌++◌, append_assoc, append-nil, map}
+use Rattle.std.specs.Prelude.{Result, Ok, Err}
 use Prim.Native.Nat.{ℕ, suc, ◌+◌, ◌-◌, ◌*◌, ◌/◌, ◌≤◌, ◌<◌}
 use native.Mathlib.Nat.{div-lt_iff_lt-mul, le-div_iff_mul-le, suc-mul, zero-mul}
 use native.Mathlib.Omega.{arith}
-use borrow.Rule.Slice.PartMut.{mid_of, put_mid}
+use borrow.Rule.Slice.PartMut.{put_mid}
 use lib.ListN.{length, drop, length-append, length-drop, set, take}
 use lib.Seq.{drop-cons, length-take-le, take_all}
 use Rattle.base.specs.Field.{byte}
 use Rattle.base.specs.Outcome.{Outcome, accepted, refused, ◌>>=◌}
+use Rattle.base.specs.Refusal.{refusal, said}
 use Rattle.base.specs.Written.{Writes}
-use Rattle.base.specs.declared.written.Written.{Written}
-use Rattle.base.specs.declared.written.Written.TheVariants.{Length, Refused}
+use Rattle.base.specs.declared.refusal.Refusal.{Refusal}
 use Rattle.base.specs.declared.refusal.Refusal.TheVariants.{NoRoom}
 use Rattle.base.proofs.Outcome.{apart, steps}
 use Rattle.base.proofs.written.Laws.{fitting, joined, lacking}
-use Rattle.tagged.specs.TaggedRecords.{bad_record, count_of, end_of, entries, entries_of, entry, entry_length, record_at, records_of, said_end, strict_numbers_of}
-use Rattle.tagged.specs.declared.tagged_records.EndAnswer.{EndAnswer}
-use Rattle.tagged.specs.declared.tagged_records.EndAnswer.TheVariants.{End}
+use Rattle.tagged.specs.TaggedRecords.{count_of, end_of, entries, entries_of, entry, entry_length, record_at, records_of, strict_numbers_of}
 use Rattle.tagged.specs.declared.tagged_records.Owner.{Owner}
 use Rattle.tagged.specs.declared.tagged_records.Owner.TheVariants.{Standard, Vendor}
 use Rattle.tagged.specs.declared.tagged_records.TaggedRecord.{TaggedRecord}
@@ -58,10 +57,10 @@ numbers_are list = go (records_of list)
     go (refused n v) = refl
 
 -- a count that is refused refuses the listing
-pub uncounted : (list : List ℕ) (width : ℕ) {place : ℕ} → count_of list ≡ bad_record place → entries_of width list ≡ bad_record place
-uncounted list width {place} e = go (records_of list) e
+pub uncounted : (list : List ℕ) (width : ℕ) (r : Refusal) → count_of list ≡ refusal r → entries_of width list ≡ refusal r
+uncounted list width r e = go (records_of list) e
   where
-    go : (o : Outcome (List TaggedRecord)) → (o >>= λ records. accepted (length records)) ≡ bad_record place → (o >>= λ records. accepted (entries width records)) ≡ bad_record place
+    go : (o : Outcome (List TaggedRecord)) → (o >>= λ records. accepted (length records)) ≡ refusal r → (o >>= λ records. accepted (entries width records)) ≡ refusal r
     go (accepted records) e = absurd (apart (sym e))
     go (refused n v) e = cc
 
@@ -105,10 +104,10 @@ module _ (list : List ℕ) (width : ℕ) (p : 0 < width) (w : width ≤ entry_le
       go : ((records : List TaggedRecord) × (records_of list ≡ accepted records) × (accepted (length records) ≡ accepted n)) → Listed
       go (records, f, g) = let z : length records ≡ n = cc in (records, f, rw (← z) (entries_length width w records))
 
-  pub no_room : length buffer / width < n → Writes (entries_of width list) (Refused NoRoom) buffer buffer
+  pub no_room : length buffer / width < n → Writes (entries_of width list) (Err NoRoom) buffer buffer
   no_room h = go listing
     where
-      go : Listed → Writes (entries_of width list) (Refused NoRoom) buffer buffer
+      go : Listed → Writes (entries_of width list) (Err NoRoom) buffer buffer
       go (records, f, l) = let k = (div-lt_iff_lt-mul p).0 h in rw f (lacking (entries width records) buffer (omega arith))
 
   pub turn_first : n ≤ length buffer / width → Turn list width buffer buffer 0 0
@@ -121,18 +120,18 @@ module _ (list : List ℕ) (width : ℕ) (p : 0 < width) (w : width ≤ entry_le
 
 module _ {list : List ℕ} {width : ℕ} {buffer out : List ℕ} {at end : ℕ} (t : Turn list width buffer out at end) where
   -- at the list's end all is written
-  pub turn_end : length list ≤ at → Writes (entries_of width list) (Length end) buffer out
+  pub turn_end : length list ≤ at → Writes (entries_of width list) (Ok end) buffer out
   turn_end h = go t.left (sym (rest_end list at h) ∙ t.read) t.all t.room
     where
       go : (left : List TaggedRecord) → accepted [] ≡ accepted left → entries_of width list ≡ accepted (t.done ++ entries width left) → length (t.done ++ entries width left) ≤ length buffer
-          → Writes (entries_of width list) (Length end) buffer out
+          → Writes (entries_of width list) (Ok end) buffer out
       go [] e f l = rw (f, append-nil, t.out_is, t.end_is) (fitting t.done buffer (rw append-nil at l))
       go (r ∷ left) e f l = let z : ◌≡◌ {A = ℕ} 0 1 = cc in absurd (omega arith)
 
   module _ (h : at < length list) where
     -- no record is refused that was counted
-    pub turn_reads : {place : ℕ} → record_at list at ≡ bad_record place → ⊥
-    turn_reads e = apart (sym (rest_read list at h e) ∙ t.read)
+    pub turn_reads : (r : Refusal) → record_at list at ≡ refusal r → ⊥
+    turn_reads r e = apart (sym (rest_read list at h e) ∙ t.read)
 
     module _ (w : width ≤ entry_length) {r : TaggedRecord} (e : record_at list at ≡ accepted r) where
       -- what is read is the next to list
@@ -154,17 +153,14 @@ module _ {list : List ℕ} {width : ℕ} {buffer out : List ℕ} {at end : ℕ} 
           omega (arith, simp length-append at next.3)
 
       -- which is written behind the others
-      pub turn_on : {part bytes : List ℕ} {x : Written} → bytes ≡ take width (entry r) → Writes (accepted bytes) x (mid_of end (length out - end) out) part
-          → Turn list width buffer (put_mid end (length out - end) out part) r.end (end + width)
-      turn_on {part} {x = x} b v =
+      pub turn_on : {bytes : List ℕ} → bytes ≡ take width (entry r) → Turn list width buffer (put_mid end (end + width - end) out bytes) r.end (end + width)
+      turn_on {bytes} b =
           let (left, f, a, l) = next in
           let m = part_length_lem width w r in
           let i = t.end_is in
-          let fits : length t.done + length (take width (entry r)) ≤ length buffer = omega (arith, turn_room) in
-          let first : Writes (accepted t.done) (Length (length t.done)) buffer out = rw t.out_is (fitting t.done buffer (omega arith)) in
-          let second : Writes (accepted (take width (entry r))) x (mid_of (length t.done) (length out - length t.done) out) part = rw (← i, ← b) v in
+          let z : end + width ≡ length t.done + length (take width (entry r)) = omega arith in
           turn (t.done ++ take width (entry r)) left f (rw append_assoc a) (rw append_assoc l)
-          (rw i (joined t.done (take width (entry r)) buffer fits out part first second)) (rw length-append (omega arith))
+          (rw (b, z, i, t.out_is) (joined t.done (take width (entry r)) buffer)) (rw length-append (omega arith))
 
 -- The list of numbers: a turn stores one byte.
 
@@ -185,7 +181,7 @@ module _ {list buffer out : List ℕ} {at i : ℕ} (t : Turn list 1 buffer out a
       (rw x (omega arith))
 
 -- a turn by the end that was found
-pub turn_number : {list buffer out : List ℕ} {at i end : ℕ} {a : EndAnswer} → Turn list 1 buffer out at i → at < length list → said_end a ≡ end_of (record_at list at) → a ≡ End end
+pub turn_number : {list buffer out : List ℕ} {at i end : ℕ} {a : Result ℕ Refusal} → Turn list 1 buffer out at i → at < length list → said a ≡ end_of (record_at list at) → a ≡ Ok end
     → (at + 3 ≤ end) × (end ≤ length list) × (i + 1 ≤ length buffer) × Turn list 1 buffer (set out i (byte (at + 1) list)) end (i + 1)
 turn_number {list} {buffer} {out} {at} {i} t h e f =
     let (r, g, z) = told_end e f in

@@ -2,14 +2,13 @@
 use mathlib.Core.Path.{◌≡◌, refl, sym, ◌∙◌, ap}
 use mathlib.Core.Bool.{Bool, true, false}
 use mathlib.Core.List.{List, [], ◌∷◌, ◌++◌, map, append_assoc, append-nil}
-use mathlib.Core.Option.{none, some}
 use Prim.Native.Nat.{ℕ, zero, suc, ◌+◌, ◌-◌, ◌≤◌, ◌<◌}
 use native.Mathlib.Omega.{arith}
 use borrow.Author.Tests.{ltb-true, ltb-false}
 use lib.Dec.{ltb}
 use lib.ListN.{length, take, drop, replicate, length-append, length-drop, take-append-drop, get_or-append}
 use lib.Seq.{take-append-le, take-append-add, get_or-append-add, get_or-take, length-take-le}
-use Rattle.std.specs.Prelude.{if◌then◌else◌}
+use Rattle.std.specs.Prelude.{None, Some, if◌then◌else◌}
 use Rattle.base.specs.Field.{Bytes, byte}
 use Rattle.base.specs.Outcome.{Outcome, accepted, refused, ◌>>=◌}
 use Rattle.base.proofs.Outcome.{apart}
@@ -91,7 +90,7 @@ module _ (list : List ℕ) (b : Bytes list) (p : ℕ) where
       let z : k ≡ length (drop p list) + (k - length (drop p list)) = omega arith in
       ap (λ (i : ℕ). byte i filled) z ∙ get_or-append-add (drop p list) (replicate 6 0) (k - length (drop p list)) 0 ∙ zero_at 6 (k - length (drop p list))
 
-  filled_start : (owner : Owner) → Start list p (some owner) → p < length list → (o : Owner) × Start filled 0 (some o) × (start_length o ≡ start_length owner)
+  filled_start : (owner : Owner) → Start list p (Some owner) → p < length list → (o : Owner) × Start filled 0 (Some o) × (start_length o ≡ start_length owner)
   filled_start owner (standard e) h = (Standard, standard (filled_first h ∙ e), refl)
   filled_start owner (own e) h = (_, own (filled_first h ∙ e), refl)
 
@@ -150,7 +149,7 @@ module _ (list : List ℕ) (b : Bytes list) where
   abbrev Goes : ℕ → ℕ → Type 0
   Goes j p = (c : List ℕ) × Bytes c × Sequence (take j (drop p list) ++ c)
 
-  goes_untagged : (p j : ℕ) (owner : Owner) → Start list p (some owner) → p + start_length owner < length list → j ≤ start_length owner → Goes j p
+  goes_untagged : (p j : ℕ) (owner : Owner) → Start list p (Some owner) → p + start_length owner < length list → j ≤ start_length owner → Goes j p
   goes_untagged p j owner s h m =
       let start = start_bytes owner (byte (p + 1) list) in
       let e = start_bytes_lem list b p owner s h in
@@ -166,7 +165,7 @@ module _ (list : List ℕ) (b : Bytes list) where
       (bytes_both start (0 ∷ []) c (omega arith, tt))
       (ap (take j) e ∙ take-append-le j start (drop (p + start_length owner) list) short ∙ sym (take-append-le j start (0 ∷ []) short))
 
-  goes_short : (p j : ℕ) (owner : Owner) → Start list p (some owner) → length list ≤ p + start_length owner → p < length list → p + j ≤ length list → Goes j p
+  goes_short : (p j : ℕ) (owner : Owner) → Start list p (Some owner) → length list ≤ p + start_length owner → p < length list → p + j ≤ length list → Goes j p
   goes_short p j owner s h l m =
       let (o, st, same) = filled_start list b p owner s l in
       let t = filled list b p in
@@ -225,16 +224,16 @@ module _ (list : List ℕ) (b : Bytes list) where
 
   -- The second half: with the byte at the place, it cannot.
 
-  shut_unowned : (p : ℕ) → Start list p none → p < length list → (c : List ℕ) (suites : List Suite) → take 1 (drop p list) ++ c ≡ sequence_bytes suites → ⊥
+  shut_unowned : (p : ℕ) → Start list p None → p < length list → (c : List ℕ) (suites : List Suite) → take 1 (drop p list) ++ c ≡ sequence_bytes suites → ⊥
   shut_unowned p (neither x y) l c suites e = first_is suites (byte p list) c (rw (next list p l) at e) x y
 
-  same_start : (p : ℕ) (owner o : Owner) (n : ℕ) (t : List ℕ) → Start list p (some owner) → byte p list ≡ byte 0 (start_bytes o n ++ t) → start_length o ≡ start_length owner
+  same_start : (p : ℕ) (owner o : Owner) (n : ℕ) (t : List ℕ) → Start list p (Some owner) → byte p list ≡ byte 0 (start_bytes o n ++ t) → start_length o ≡ start_length owner
   same_start p owner Standard n t (standard x) e = refl
   same_start p owner Standard n t (own x) e = absurd (omega arith)
   same_start p owner (Vendor v) n t (standard x) e = absurd (omega arith)
   same_start p owner (Vendor v) n t (own x) e = refl
 
-  shut_untagged : (p : ℕ) (owner : Owner) → Start list p (some owner) → p + start_length owner < length list → (tag_in (byte (p + start_length owner) list) ≡ authentication_tag → ⊥)
+  shut_untagged : (p : ℕ) (owner : Owner) → Start list p (Some owner) → p + start_length owner < length list → (tag_in (byte (p + start_length owner) list) ≡ authentication_tag → ⊥)
       → (c : List ℕ) (suites : List Suite) → suites_fit suites ≡ true → take (suc (start_length owner)) (drop p list) ++ c ≡ sequence_bytes suites → ⊥
   shut_untagged p owner s h t c [] f e =
       let d = length-drop p list in

@@ -1,29 +1,28 @@
 -- Laws of the reading: where the bytes with a tag end; a record by cases; the records one behind the other.
 use mathlib.Core.Path.{◌≡◌, refl, sym, ◌∙◌, ap}
-use mathlib.Core.Bool.{Bool, true, false}
+use mathlib.Core.Bool.{Bool, true, false, cond, not}
 use mathlib.Core.List.{List, [], ◌∷◌}
-use mathlib.Core.Option.{Option, none, some}
 use Prim.Native.Nat.{ℕ, zero, suc, ◌+◌, ◌-◌, ◌/◌, ◌≤◌, ◌<◌}
 use native.Mathlib.Nat.{zero-add}
 use native.Mathlib.Numerals.{add-one}
 use native.Mathlib.Omega.{arith}
 use borrow.Author.Tests.{eq-eqb, eqb-false, eqb-true, le-ltb, lt-ltb, ltb-false, ltb-true, ne_eqb}
 use lib.Dec.{eqb, ltb}
-use lib.ListN.{length, get_or, drop, drop_of_length-le, length-drop}
-use lib.Seq.{drop-cons}
-use Rattle.std.specs.Prelude.{if◌then◌else◌}
-use Rattle.base.specs.Field.{byte}
+use lib.ListN.{length, get_or, drop, take, drop_of_length-le, length-drop}
+use lib.Seq.{drop-cons, take_all}
+use Rattle.std.specs.Prelude.{Option, None, Some, Result, Ok, Err, if◌then◌else◌}
+use Rattle.std.specs.List.{position_or_len}
+use Rattle.base.specs.Field.{Bytes, byte}
 use Rattle.base.specs.Little.{little}
 use Rattle.base.specs.Outcome.{Outcome, accepted, refused, ◌>>=◌}
+use Rattle.base.specs.Refusal.{refusal, said}
+use Rattle.base.specs.declared.refusal.Refusal.{Refusal}
 use Rattle.base.proofs.Outcome.{apart, steps}
-use Rattle.base.proofs.little.Laws.{bytes_back}
+use Rattle.base.proofs.little.Laws.{bytes_back, bytes_drop}
 use Rattle.tagged.specs.Format.{authentication_tag, confidentiality_tag, integrity_tag, own_start, standard_start}
-use Rattle.tagged.specs.TaggedRecords.{bad_record, body_at, count_of, end_of, entry, number_in, owner_at, reach, record_at, record_with, records_from, records_of, run, said_end, said_record, start_at, start_length, strict_step_at, tag_in}
-use Rattle.tagged.specs.declared.tagged_records.EndAnswer.{EndAnswer}
-use Rattle.tagged.specs.declared.tagged_records.EndAnswer.TheVariants as EndAnswers
+use Rattle.tagged.specs.TaggedRecords.{bad_record, body_at, count_of, end_of, entry, number_in, owner_at, reach, record_at, record_with, records_from, records_of, run, start_at, start_length, strict_step_at, tag_in}
 use Rattle.tagged.specs.declared.tagged_records.Owner.{Owner}
 use Rattle.tagged.specs.declared.tagged_records.Owner.TheVariants.{Standard, Vendor}
-use Rattle.tagged.specs.declared.tagged_records.RecordAnswer.{RecordAnswer}
 use Rattle.tagged.specs.declared.tagged_records.TaggedRecord.{TaggedRecord}
 
 -- the code's division; a byte has no bit above the two of the tag
@@ -33,6 +32,14 @@ tag_divided b h = omega arith
 -- a number without a tag is the byte itself
 pub number_plain : (b : ℕ) → b / 64 ≡ 0 → b ≡ number_in b
 number_plain b h = omega arith
+
+run_within : (tag : ℕ) (l : List ℕ) → run tag l ≤ length l
+run_within tag [] = omega arith
+run_within tag (b ∷ l) = go (eqb (tag_in b) tag) (run_within tag l)
+  where
+    go : (x : Bool) → run tag l ≤ length l → (if x then suc (run tag l) else 0) ≤ suc (length l)
+    go true h = omega arith
+    go false h = omega arith
 
 module _ (tag : ℕ) (list : List ℕ) (i : ℕ) where
   pub reach_stop : i < length list → (tag_in (get_or list i 0) ≡ tag → ⊥) → reach tag list i ≡ i
@@ -46,15 +53,57 @@ module _ (tag : ℕ) (list : List ℕ) (i : ℕ) where
 
   -- it ends where it begins or behind that, and in the list
   pub reach_within : i ≤ length list → (i ≤ reach tag list i) × (reach tag list i ≤ length list)
-  reach_within h = let l = short (drop i list) in let e = length-drop i list in (omega arith, omega arith)
+  reach_within h = let l = run_within tag (drop i list) in let e = length-drop i list in (omega arith, omega arith)
+
+-- the code's test, and where it first holds
+abbrev pub Other : ℕ → ℕ → Bool
+Other tag b = if eqb (b / 64) tag then false else true
+
+run_position : (tag : ℕ) (l : List ℕ) → Bytes l → position_or_len (Other tag) l ≡ run tag l
+run_position tag [] h = refl
+run_position tag (b ∷ l) h = go (b / 64) (tag_in b) (tag_divided b h.0) (run_position tag l h.1)
+  where
+    by : (x : Bool) → position_or_len (Other tag) l ≡ run tag l → cond (not (if x then false else true)) (1 + position_or_len (Other tag) l) 0 ≡ (if x then suc (run tag l) else 0)
+    by true e = rw e (omega arith)
+    by false e = refl
+
+    go : (x y : ℕ) → x ≡ y → position_or_len (Other tag) l ≡ run tag l → cond (not (if eqb x tag then false else true)) (1 + position_or_len (Other tag) l) 0 ≡ (if eqb y tag then suc (run tag l) else 0)
+    go x y e f = rw e (by (eqb y tag) f)
+
+-- what a list has from a place on, as the machine lends it
+abbrev pub lent_from : ℕ → List ℕ → List ℕ
+lent_from at list = take (length list - at) (drop at list)
+
+module _ (tag : ℕ) (list : List ℕ) (at : ℕ) (b : Bytes list) (h : at ≤ length list) {r : Option ℕ}
+    (e : r ≡ (if ltb (position_or_len (Other tag) (lent_from at list)) (length (lent_from at list)) then Some (position_or_len (Other tag) (lent_from at list)) else None)) where
+  where_run : r ≡ (if ltb (run tag (drop at list)) (length (drop at list)) then Some (run tag (drop at list)) else None)
+  where_run =
+      let z = run_position tag (drop at list) (bytes_drop at list b) in
+      let d = length-drop at list in
+      let w = take_all (length list - at) (drop at list) (omega arith) in
+      e ∙ rw (w, z)
+
+  pub reach_found : {n : ℕ} → r ≡ Some n → (at + n ≡ reach tag list at) × (at + n ≤ length list)
+  reach_found {n} f = go (ltb (run tag (drop at list)) (length (drop at list))) refl where_run
     where
-      short : (l : List ℕ) → run tag l ≤ length l
-      short [] = omega arith
-      short (b ∷ l) = go (eqb (tag_in b) tag) (short l)
-        where
-          go : (x : Bool) → run tag l ≤ length l → (if x then suc (run tag l) else 0) ≤ suc (length l)
-          go true h = omega arith
-          go false h = omega arith
+      go : (x : Bool) → ltb (run tag (drop at list)) (length (drop at list)) ≡ x → r ≡ (if x then Some (run tag (drop at list)) else None) → (at + n ≡ reach tag list at) × (at + n ≤ length list)
+      go true l g =
+          let d = length-drop at list in
+          let z : run tag (drop at list) ≡ n = cc in
+          let k = ltb-true _ _ l in
+          (omega arith, omega arith)
+      go false l g = let z : ◌≡◌ {A = ℕ} 0 1 = cc in absurd (omega arith)
+
+  pub reach_past : r ≡ None → length list ≡ reach tag list at
+  reach_past f = go (ltb (run tag (drop at list)) (length (drop at list))) refl where_run
+    where
+      go : (x : Bool) → ltb (run tag (drop at list)) (length (drop at list)) ≡ x → r ≡ (if x then Some (run tag (drop at list)) else None) → length list ≡ reach tag list at
+      go true l g = let z : ◌≡◌ {A = ℕ} 0 1 = cc in absurd (omega arith)
+      go false l g =
+          let d = length-drop at list in
+          let k = ltb-false _ _ l in
+          let w = run_within tag (drop at list) in
+          omega arith
 
 -- A record from its authentication byte on.
 
@@ -120,15 +169,15 @@ entered list p {r} b e = go (eqb (byte p list) standard_start) (eqb (byte p list
 
 -- Every case of reading a record: it is whole; no record begins so; the list ends before the authentication byte; that byte has another tag.
 pub data View (list : List ℕ) (p : ℕ) : Outcome TaggedRecord → Type 0 where
-  whole : (owner : Owner) → owner_at list p ≡ some owner → p + start_length owner < length list → tag_in (byte (p + start_length owner) list) ≡ authentication_tag
+  whole : (owner : Owner) → owner_at list p ≡ Some owner → p + start_length owner < length list → tag_in (byte (p + start_length owner) list) ≡ authentication_tag
       → View list p (accepted (record_with list owner (byte (p + 1) list) (p + start_length owner)))
-  unowned : owner_at list p ≡ none → View list p (bad_record p)
-  short : (owner : Owner) → owner_at list p ≡ some owner → length list ≤ p + start_length owner → View list p (bad_record (length list))
-  untagged : (owner : Owner) → owner_at list p ≡ some owner → p + start_length owner < length list → (tag_in (byte (p + start_length owner) list) ≡ authentication_tag → ⊥)
+  unowned : owner_at list p ≡ None → View list p (bad_record p)
+  short : (owner : Owner) → owner_at list p ≡ Some owner → length list ≤ p + start_length owner → View list p (bad_record (length list))
+  untagged : (owner : Owner) → owner_at list p ≡ Some owner → p + start_length owner < length list → (tag_in (byte (p + start_length owner) list) ≡ authentication_tag → ⊥)
       → View list p (bad_record (p + start_length owner))
 
 module _ (list : List ℕ) (p : ℕ) where
-  view_body : (owner : Owner) → owner_at list p ≡ some owner → View list p (body_at list owner (byte (p + 1) list) (p + start_length owner))
+  view_body : (owner : Owner) → owner_at list p ≡ Some owner → View list p (body_at list owner (byte (p + 1) list) (p + start_length owner))
   view_body owner e = at_length (ltb at (length list)) refl
     where
       at : ℕ
@@ -148,8 +197,8 @@ module _ (list : List ℕ) (p : ℕ) where
   view = go (owner_at list p) refl
     where
       go : (o : Option Owner) → owner_at list p ≡ o → View list p (start_at list p o)
-      go none e = unowned e
-      go (some owner) e = view_body owner e
+      go None e = unowned e
+      go (Some owner) e = view_body owner e
 
   -- a record has three bytes or more, and all of them lie in the list
   pub ends : {r : TaggedRecord} → record_at list p ≡ accepted r → (p + 3 ≤ r.end) × (r.end ≤ length list)
@@ -182,10 +231,10 @@ module _ (list : List ℕ) (p : ℕ) where
       go o (untagged owner w h t) e = absurd (apart e)
 
   -- a step, by the record that is read
-  pub step_end : length list ≤ p → accepted none ≡ strict_step_at list p
+  pub step_end : length list ≤ p → accepted None ≡ strict_step_at list p
   step_end h = rw (le-ltb p (length list) h)
 
-  pub step_read : {o : Outcome TaggedRecord} → p < length list → record_at list p ≡ o → (o >>= λ r. accepted (some r)) ≡ strict_step_at list p
+  pub step_read : {o : Outcome TaggedRecord} → p < length list → record_at list p ≡ o → (o >>= λ r. accepted (Some r)) ≡ strict_step_at list p
   step_read h e = rw (lt-ltb p (length list) h, e)
 
 -- Where a record ends, no record made.
@@ -246,20 +295,16 @@ module _ (list : List ℕ) (p : ℕ) (l : p + 5 ≤ length list) (s : byte p lis
   plain_next h n = plain_until (reach_stop confidentiality_tag list (p + 5) h n)
 
 -- what an end tells of the record
-module _ {a : EndAnswer} {o : Outcome TaggedRecord} (e : said_end a ≡ end_of o) where
-  pub told_end : {end : ℕ} → a ≡ EndAnswers.End end → (r : TaggedRecord) × (o ≡ accepted r) × (r.end ≡ end)
-  told_end f = let (r, g, h) = steps o (λ r. accepted r.end) (sym e ∙ ap said_end f) in (r, g, cc)
+module _ {a : Result ℕ Refusal} {o : Outcome TaggedRecord} (e : said a ≡ end_of o) where
+  pub told_end : {end : ℕ} → a ≡ Ok end → (r : TaggedRecord) × (o ≡ accepted r) × (r.end ≡ end)
+  told_end f = let (r, g, h) = steps o (λ r. accepted r.end) (sym e ∙ ap said f) in (r, g, cc)
 
-  pub told_bad : {place : ℕ} → a ≡ EndAnswers.BadRecord place → o ≡ bad_record place
-  told_bad {place} f = go o (sym e ∙ ap said_end f)
+  pub told_bad : {r : Refusal} → a ≡ Err r → o ≡ refusal r
+  told_bad {r} f = go o (sym e ∙ ap said f)
     where
-      go : (o : Outcome TaggedRecord) → end_of o ≡ bad_record place → o ≡ bad_record place
+      go : (o : Outcome TaggedRecord) → end_of o ≡ refusal r → o ≡ refusal r
       go (accepted r) e = absurd (apart (sym e))
       go (refused n v) e = cc
-
--- what an answer's case tells of the outcome
-pub told : {a b : RecordAnswer} {o : Outcome TaggedRecord} → said_record a ≡ o → a ≡ b → o ≡ said_record b
-told e f = sym e ∙ ap said_record f
 
 -- Records one behind the other.
 
@@ -319,8 +364,8 @@ module _ (list : List ℕ) where
     pub counted_end : length list ≤ p → counted list n p ≡ accepted n
     counted_end h = rw (rest_end list p h) (ap accepted (omega arith))
 
-    pub counted_bad : {place : ℕ} → p < length list → record_at list p ≡ bad_record place → counted list n p ≡ bad_record place
-    counted_bad h e = rw (rest_read list p h e)
+    pub counted_bad : (r : Refusal) → p < length list → record_at list p ≡ refusal r → counted list n p ≡ refusal r
+    counted_bad r h e = rw (rest_read list p h e)
 
     pub counted_on : {r : TaggedRecord} → p < length list → record_at list p ≡ accepted r → counted list n p ≡ counted list (n + 1) r.end
     counted_on {r} h e = rw (rest_read list p h e) (go (rest_of list r.end))
@@ -333,14 +378,14 @@ module _ (list : List ℕ) where
 
 -- at the end nothing is left; else a step's record, and what is left where it ends
 abbrev pub followed : List ℕ → Option TaggedRecord → Outcome (List TaggedRecord)
-followed list none = accepted []
-followed list (some r) = before (rest_of list) (accepted r)
+followed list None = accepted []
+followed list (Some r) = before (rest_of list) (accepted r)
 
 -- Who takes one step after the other gets the list's records; the first step that is refused is refused as the list is.
 pub by_steps : (list : List ℕ) (p : ℕ) → rest_of list p ≡ (strict_step_at list p >>= followed list)
 by_steps list p = go (ltb p (length list)) refl
   where
-    same : (o : Outcome TaggedRecord) → before (rest_of list) o ≡ ((o >>= λ r. accepted (some r)) >>= followed list)
+    same : (o : Outcome TaggedRecord) → before (rest_of list) o ≡ ((o >>= λ r. accepted (Some r)) >>= followed list)
     same (accepted r) = refl
     same (refused n v) = refl
 

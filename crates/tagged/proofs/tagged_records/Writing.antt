@@ -1,21 +1,21 @@
 -- Laws of writing records.
-use mathlib.Core.Path.{◌≡◌, refl, ◌∙◌, ap}
-use mathlib.Core.Bool.{true, false}
-use mathlib.Core.List.{List, [], ◌∷◌, ◌++◌, append_assoc, map}
+use mathlib.Core.Path.{◌≡◌, refl, sym, ◌∙◌, ap}
+use mathlib.Core.Bool.{Bool, true, false, ◌&&◌}
+use mathlib.Core.List.{List, [], ◌∷◌, ◌++◌, append_assoc, append-nil, map}
+use Rattle.std.specs.Prelude.{Ok, Err, if◌then◌else◌}
+use lib.Dec.{ltb}
 use Prim.Native.Nat.{ℕ, zero, suc, ◌+◌, ◌-◌, ◌*◌, ◌%◌, ◌≤◌, ◌<◌}
 use native.Mathlib.Nat.{zero-add}
-use native.Mathlib.Numerals.{add-one}
 use native.Mathlib.Omega.{arith}
-use borrow.Author.Tests.{lt-ltb, le-ltb}
-use borrow.Rule.Slice.PartMut.{mid_of, put_mid}
+use borrow.Author.Tests.{lt-ltb}
+use borrow.Rule.Slice.PartMut.{put_mid}
 use lib.ListN.{length, get_or, drop, set, drop_of_length-le, length-append, length-map}
-use lib.Seq.{drop-cons, paste}
+use lib.Seq.{paste}
+use Rattle.std.specs.List.{list_all}
 use Rattle.base.specs.Outcome.{accepted}
 use Rattle.base.specs.Written.{Writes}
 use Rattle.base.specs.declared.refusal.Refusal.TheVariants.{NoRoom}
-use Rattle.base.specs.declared.written.Written.{Written}
-use Rattle.base.specs.declared.written.Written.TheVariants.{Length, Refused}
-use Rattle.base.proofs.written.Laws.{fitting, joined, lacking, stored}
+use Rattle.base.proofs.written.Laws.{fitting, joined, lacking, stored, whole}
 use Rattle.tagged.specs.Format.{all_fit, authentication_tag, confidentiality_tag, integrity_tag, owner_fits, start_bytes, tagged}
 use Rattle.tagged.specs.TaggedRecords.{number_in, numbers_in, retagged, start_length, suite_from, suite_written}
 use Rattle.tagged.specs.declared.tagged_records.Owner.{Owner}
@@ -36,6 +36,9 @@ retagged_length tag bytes = length-map bytes (λ (b : ℕ). tagged tag (number_i
 pub untagged : (bytes : List ℕ) → retagged authentication_tag bytes ≡ numbers_in bytes
 untagged bytes = simp zero-add
 
+pub numbers_length : (bytes : List ℕ) → length (numbers_in bytes) ≡ length bytes
+numbers_length bytes = length-map bytes number_in
+
 -- a turn of the loop: its store of byte i
 pub tag_stored : (tag : ℕ) (d bytes out : List ℕ) (i : ℕ) → out ≡ paste d 0 (retagged tag bytes) i → i < length d → i < length bytes → set out i (tag * 64 + get_or bytes i 0 % 64) ≡ paste d 0 (retagged tag bytes) (i + 1)
 tag_stored tag d bytes out i e hd hb =
@@ -43,17 +46,17 @@ tag_stored tag d bytes out i e hd hb =
     let b : tag * 64 + get_or bytes i 0 % 64 ≡ get_or (retagged tag bytes) i 0 = rw (retagged_at tag bytes i hb) (omega arith) in
     ap (set out i) b ∙ stored d (retagged tag bytes) out i e hd (omega arith)
 
--- Numbers that fit.
+-- all bytes are stored
+pub retagged_all : (tag : ℕ) (d bytes out : List ℕ) (i : ℕ) → out ≡ paste d 0 (retagged tag bytes) i → i ≡ length bytes → length bytes ≡ length d → out ≡ retagged tag bytes
+retagged_all tag d bytes out i e h l = whole d (retagged tag bytes) out i e (h ∙ sym (retagged_length tag bytes)) ∙ rw (retagged_length tag bytes, drop_of_length-le d {i = length bytes} (omega arith), append-nil)
 
-module _ (numbers : List ℕ) (i : ℕ) where
-  pub fit_stop : i < length numbers → 64 ≤ get_or numbers i 0 → all_fit (drop i numbers) ≡ false
-  fit_stop h big = rw (drop-cons numbers i 0 h, le-ltb (get_or numbers i 0) 64 big)
-
-  pub fit_on : i < length numbers → get_or numbers i 0 < 64 → all_fit (drop i numbers) ≡ all_fit (drop (i + 1) numbers)
-  fit_on h small = rw (drop-cons numbers i 0 h, lt-ltb (get_or numbers i 0) 64 small, add-one)
-
-  pub fit_end : length numbers ≤ i → all_fit (drop i numbers) ≡ true
-  fit_end h = rw (drop_of_length-le numbers h)
+pub all_fit_list : (numbers : List ℕ) → list_all (λ (n : ℕ). ltb n 64) numbers ≡ all_fit numbers
+all_fit_list [] = refl
+all_fit_list (n ∷ numbers) = go (ltb n 64) (all_fit_list numbers)
+  where
+    go : (x : Bool) → list_all (λ (n : ℕ). ltb n 64) numbers ≡ all_fit numbers → (x && list_all (λ (n : ℕ). ltb n 64) numbers) ≡ (if x then all_fit numbers else false)
+    go true e = e
+    go false e = refl
 
 -- A record.
 
@@ -61,11 +64,7 @@ pub start_short : (owner : Owner) → suc (start_length owner) ≤ 6
 start_short Standard = omega arith
 start_short (Vendor vendor) = omega arith
 
--- a buffer after its part from a place on was lent and came back
-abbrev put : ℕ → List ℕ → List ℕ → List ℕ
-put at buffer part = put_mid at (length buffer - at) buffer part
-
--- a record's parts, each written to what the one before it left
+-- a record's parts, each put behind what stands
 module _ (head integrity confidentiality d : List ℕ) where
   abbrev second : List ℕ
   second = retagged integrity_tag integrity
@@ -82,22 +81,18 @@ module _ (head integrity confidentiality d : List ℕ) where
   parts_length : length (head ++ (second ++ third)) ≡ at + length confidentiality
   parts_length = simp (length-append, retagged_length) (omega arith)
 
-  pub parts_lacking : length d < at + length confidentiality → Writes (accepted (head ++ (second ++ third))) (Refused NoRoom) d d
+  pub parts_lacking : length d < at + length confidentiality → Writes (accepted (head ++ (second ++ third))) (Err NoRoom) d d
   parts_lacking h = lacking (head ++ (second ++ third)) d (rw parts_length h)
 
-  pub parts_fitting : (mid part last : List ℕ) {r r' r'' : Written} → at + length confidentiality ≤ length d
-      → Writes (accepted head) r d mid
-      → Writes (accepted second) r' (mid_of (length head) (length mid - length head) mid) part
-      → Writes (accepted third) r'' (mid_of at (length (put (length head) mid part) - at) (put (length head) mid part)) last
-      → Writes (accepted (head ++ (second ++ third))) (Length (at + length confidentiality)) d (put at (put (length head) mid part) last)
-  parts_fitting mid part last fits w w' w'' =
-      let l = seam in
+  pub parts_fitting : at + length confidentiality ≤ length d
+      → Writes (accepted (head ++ (second ++ third))) (Ok (at + length confidentiality)) d
+      (put_mid at (at + length confidentiality - at) (put_mid (length head) (at - length head) (head ++ drop (length head) d) second) third)
+  parts_fitting fits =
       let m = retagged_length integrity_tag integrity in
       let n = retagged_length confidentiality_tag confidentiality in
-      let e = joined head second d (omega arith) mid part w w' in
-      let v : Writes (accepted (head ++ second)) (Length (length (head ++ second))) d (put (length head) mid part) = rw e (fitting (head ++ second) d (omega arith)) in
-      let k = joined (head ++ second) third d (omega arith) (put (length head) mid part) last v (rw l at w'') in
-      rw (← parts_length, l, k, append_assoc head second third) (fitting (head ++ (second ++ third)) d (rw parts_length fits))
+      let e = rw m at (joined head second d) in
+      let k = rw (← seam, n) at (joined (head ++ second) third d) in
+      rw (e, ← seam, k, append_assoc head second third, ← parts_length) (fitting (head ++ (second ++ third)) d (rw parts_length fits))
 
 -- The numbers that fit, as `write` takes them.
 

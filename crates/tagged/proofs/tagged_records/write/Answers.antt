@@ -1,7 +1,5 @@
 use borrow.Author.Tests.{lt-ltb, le-ltb}
-use mathlib.Core.Path.{◌≡◌, sym, ◌∙◌}
-use Prim.Native.Nat.{◌-◌}
-use native.Mathlib.Omega.{arith}
+use mathlib.Core.Path.{sym, ◌∙◌}
 use Rattle.base.specs.declared.refusal.Refusal.TheVariants.{NoForm}
 use Rattle.base.proofs.written.Laws.{refusing}
 use Rattle.tagged.proofs.tagged_records.Writing.{as_written}
@@ -30,16 +28,24 @@ returns-then-not-all_fit-2 c =
     let i = sym c.all_fit.ensures ∙ c.if-not-all_fit.false in
     refusing NoForm a.out.now (simp (o, n, i, sym c.all_fit-2.ensures ∙ c.if-not-all_fit-2.true))
 
-pub returns : goal.returns
-returns c =
+pub returns-in-Standard : goal.returns-in-Standard
+returns-in-Standard c =
     let a = c.args in
-    let n = c.head_of-head.result.length in
-    let z : n - 0 ≡ n = omega arith in
-    rw (
-      as_written a.owner a.number a.authentication a.integrity.now a.confidentiality.now
-          (sym c.owner_fits.ensures ∙ c.if-not-owner_fits.false)
-          c.if-authentication-ge-NUMBERS.false
-          (sym c.all_fit.ensures ∙ c.if-not-all_fit.false)
-          (sym c.all_fit-2.ensures ∙ c.if-not-all_fit-2.false),
-      ← c.head_of-head.ensures.1,
-    ) (rw z at c.write_parts.ensures)
+    let w =
+    as_written a.owner a.number a.authentication a.integrity.now a.confidentiality.now
+    (sym c.owner_fits.ensures ∙ c.if-not-owner_fits.false)
+    c.if-authentication-ge-NUMBERS.false
+    (sym c.all_fit.ensures ∙ c.if-not-all_fit.false)
+    (sym c.all_fit-2.ensures ∙ c.if-not-all_fit-2.false) in
+    rw (w, c.in-Standard.is) c.write_parts.ensures
+
+pub returns-in-Vendor : goal.returns-in-Vendor
+returns-in-Vendor c =
+    let a = c.args in
+    let w =
+    as_written a.owner a.number a.authentication a.integrity.now a.confidentiality.now
+    (sym c.owner_fits.ensures ∙ c.if-not-owner_fits.false)
+    c.if-authentication-ge-NUMBERS.false
+    (sym c.all_fit.ensures ∙ c.if-not-all_fit.false)
+    (sym c.all_fit-2.ensures ∙ c.if-not-all_fit-2.false) in
+    rw (w, c.in-Vendor.is) (rw c.bytes-v.ensures at c.write_parts-in-Vendor.ensures)

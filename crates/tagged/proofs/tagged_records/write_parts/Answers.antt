@@ -20,4 +20,4 @@ returns-then-out-at c =
 pub returns : goal.returns
 returns c =
     let a = c.args in
-    parts_fitting a.head.now a.integrity.now a.confidentiality.now a.out.now _ _ _ (omega arith) c.place.ensures c.retagged.ensures c.retagged-2.ensures
+    rw (c.copy_from_slice.ensures.after, c.put_tagged.ensures, c.put_tagged-2.ensures) (parts_fitting a.head.now a.integrity.now a.confidentiality.now a.out.now (omega arith))
