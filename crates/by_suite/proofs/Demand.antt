@@ -11,7 +11,8 @@ use borrow.Author.Tests.{eq-eqb, ne_eqb, le-ltb}
 use Rattle.base.specs.Field.{Bytes, byte}
 use Rattle.base.specs.Outcome.{Outcome, accepted, refused, ◌>>=◌, is_accepted}
 use Rattle.base.proofs.little.Laws.{bytes_drop, bytes_take}
-use Rattle.collector.specs.Collector.{◌or◌, complete, missing, last_index, answer_of, taking}
+use Rattle.collector.specs.Collector.{◌or◌, last_index, answer_of, taking}
+use Rattle.collector.specs.declared.Status.TheVariants.{Complete, Missing}
 use Rattle.collector.specs.Demand.{AllBytes, AllHeard, Call, Demand3, Explained, Explains, HasList, HeardIn, controllers, made, taken}
 use Rattle.collector.specs.Histories.{after}
 use Rattle.collector.specs.Parts.{Parts}
@@ -190,12 +191,12 @@ module _ (m : ℕ) (legal-m : is_channel m ≡ true) where
       its : AllHeard (channel_controllers m) x h → HasList (channel_controllers m) x (listening m) h
       its y = let (a, b) = demand_3_stored.its_list x.list s.list (tails h) old (λ i il. heard_tail i h (y i il)) in (stands_as ∙ a, lists_as ∙ b)
 
-      names : (AllHeard (channel_controllers m) x h → ⊥) → (i : ℕ) × (standing_from (made (listening m) h) ≡ accepted (missing i)) × (HeardIn i h → ⊥) × ((j : ℕ) → j < i → HeardIn j h)
+      names : (AllHeard (channel_controllers m) x h → ⊥) → (i : ℕ) × (standing_from (made (listening m) h) ≡ accepted (Missing i)) × (HeardIn i h → ⊥) × ((j : ℕ) → j < i → HeardIn j h)
       names n =
           let (i, z, un, under) = demand_3_stored.names_lowest x.list s.list (tails h) old (λ y. n (λ i il. tail_heard i h (y i il))) in
           (i, stands_as ∙ z, (λ y. un (heard_tail i h y)), λ j jl. tail_heard j h (under j jl))
 
-      completes : ((n : ℕ) × (standing_from (made (listening m) h) ≡ accepted (complete n))) ↔ AllHeard (channel_controllers m) x h
+      completes : ((n : ℕ) × (standing_from (made (listening m) h) ≡ accepted (Complete n))) ↔ AllHeard (channel_controllers m) x h
       completes =
           let (to, from) = demand_3_stored.complete_exactly x.list s.list (tails h) old in
           ((λ (n, z) i il. tail_heard i h (to (n, sym stands_as ∙ z) i il)), λ y. let (n, z) = from (λ i il. heard_tail i h (y i il)) in (n, stands_as ∙ z))

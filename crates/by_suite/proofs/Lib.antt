@@ -1,5 +1,4 @@
 pub mod Demand
 pub mod Project
 pub mod Reach
-pub mod Said
 pub mod Unique

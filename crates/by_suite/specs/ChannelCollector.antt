@@ -4,15 +4,14 @@ use Rattle.base.specs.Choice.{◌<?◌, ◌=?◌}
 use Rattle.base.specs.Connection.{value_of}
 use Rattle.base.specs.Outcome.{Outcome, accepted, refused, ◌>>=◌}
 use Rattle.base.specs.declared.connection.Channel.TheVariants.{Current}
-use Rattle.collector.specs.Collector.{◌and◌, ◌or◌, last_index, Standing}
+use Rattle.collector.specs.Collector.{◌and◌, ◌or◌, last_index}
 use Rattle.collector.specs.Stored.{collector_of, fresh_stored, well_stored, taking_stored, standing_stored, list_stored}
 use Rattle.collector.specs.declared.Collector.{Collector}
+use Rattle.collector.specs.declared.Status.{Status}
 use Rattle.suites.specs.Collected.{suites_of}
 use Rattle.suites.specs.GetChannelCipherSuites.{zeros}
 use Rattle.by_suite.specs.GetChannelCipherSuites.{is_channel, list_in, number_in}
 use Rattle.by_suite.specs.declared.channel_collector.ChannelCollector.{ChannelCollector}
-use Rattle.by_suite.specs.declared.channel_collector.FromAnswer.{FromAnswer}
-use Rattle.by_suite.specs.declared.channel_collector.FromAnswer.TheVariants.{From, NoChannel}
 
 -- the number of Current
 abbrev pub current : ℕ
@@ -25,11 +24,6 @@ channel_collector channel from collector = record { channel = channel; from = fr
 -- the one that is lent as a number, a byte and three arrays
 abbrev pub lent_as : ℕ → ℕ → List ℕ → List ℕ → List ℕ → ChannelCollector
 lent_as channel from bytes marks known = channel_collector channel from (collector_of bytes marks known)
-
--- each case's outcome
-abbrev pub said_from : FromAnswer → Outcome ℕ
-said_from (From n) = accepted n
-said_from NoChannel = refused 6 []
 
 -- none is taken yet: "a collector made for Current takes it from the first accepted answer"
 abbrev pub start_of : ℕ → ℕ
@@ -48,10 +42,6 @@ abbrev pub made_for : ℕ → Outcome ChannelCollector
 made_for channel = do
   from ← from_for channel
   accepted (channel_collector channel from fresh_stored)
-
--- stands beside a refusal: no calls make it
-abbrev pub no_collector : ChannelCollector
-no_collector = channel_collector 0 0 fresh_stored
 
 -- "The number in the low nibble has to be that channel", or none is taken yet
 abbrev pub agrees : ℕ → ℕ → Bool
@@ -91,7 +81,7 @@ taking_from s index response = tested_from s (do
   accepted (channel_collector s.channel (suc number) collector))
 
 -- where it stands
-abbrev pub standing_from : ChannelCollector → Outcome Standing
+abbrev pub standing_from : ChannelCollector → Outcome Status
 standing_from s = tested_from s (standing_stored s.collector)
 
 -- its list

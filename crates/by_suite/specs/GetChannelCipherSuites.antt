@@ -4,25 +4,14 @@ use Rattle.base.specs.Choice.{◌<?◌}
 use Rattle.base.specs.Connection.{channel_of, channel_field}
 use Rattle.base.specs.Field.{bits, byte, within}
 use Rattle.base.specs.Outcome.{Outcome, accepted, refused, ◌>>=◌, is_accepted}
-use Rattle.base.specs.Refusal.{refusal}
 use Rattle.base.specs.Request.{request}
 use Rattle.base.specs.declared.connection.Channel.{Channel}
-use Rattle.base.specs.declared.connection.Channel.TheVariants.{Primary}
 use Rattle.collector.specs.Collector.{last_index, part_length}
 use Rattle.suites.specs.GetChannelCipherSuites as suites
-use Rattle.suites.specs.GetChannelCipherSuites.{no_suites, part, suites_bytes}
+use Rattle.suites.specs.GetChannelCipherSuites.{part, suites_bytes}
 use Rattle.suites.specs.declared.get_channel_cipher_suites.ChannelCipherSuites.{ChannelCipherSuites}
 use Rattle.by_suite.specs.declared.get_channel_cipher_suites.BySuite.{BySuite}
 use Rattle.by_suite.specs.declared.get_channel_cipher_suites.ChannelSuites.{ChannelSuites}
-use Rattle.by_suite.specs.declared.get_channel_cipher_suites.CommandAnswer.{CommandAnswer}
-use Rattle.by_suite.specs.declared.get_channel_cipher_suites.CommandAnswer.TheVariants as Commands
-use Rattle.by_suite.specs.declared.get_channel_cipher_suites.Heard.{Heard}
-use Rattle.by_suite.specs.declared.get_channel_cipher_suites.Heard.TheVariants.{Number, Refused}
-
--- each case's outcome
-abbrev pub said_command : CommandAnswer → Outcome BySuite
-said_command (Commands.Command command) = accepted command
-said_command (Commands.Refused r) = refusal r
 
 -- The request: the channel, payload type 0, and the index with bit 7 set.
 
@@ -61,11 +50,6 @@ command_of bytes = request 3 bytes (do
 
 -- The answer: "a channel byte comes first, then up to sixteen record bytes".
 
--- each case's outcome
-abbrev pub said_heard : Heard → Outcome ℕ
-said_heard (Number n) = accepted n
-said_heard (Refused r) = refusal r
-
 -- "The number in the low nibble": the high one is not looked at
 abbrev pub nibble : ℕ → ℕ
 nibble first = bits 0 4 first
@@ -88,10 +72,6 @@ list_in response = drop 1 response
 -- an answer holds its channel and its part of the list
 abbrev pub answer : Channel → ChannelCipherSuites → ChannelSuites
 answer channel suites = record { channel = channel; suites = suites }
-
--- stands beside a refusal
-abbrev pub no_answer : ChannelSuites
-no_answer = answer Primary no_suites
 
 -- the answer, read alone
 abbrev pub answer_of : List ℕ → Outcome ChannelSuites

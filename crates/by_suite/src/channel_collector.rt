@@ -1,20 +1,17 @@
 // A collector of one channel's answers as they come: document 02, C-12. It is the collector, and a byte beside it that says which
 // channel it takes answers from.
-ghost use Rattle.std.specs.Prelude.{◌≡◌, max, if◌then◌else◌};
-ghost use Rattle.base.specs.Refusal.{row};
+ghost use Rattle.std.specs.Prelude.{◌≡◌, if◌then◌else◌};
+ghost use Rattle.base.specs.Refusal.{row, said};
 ghost use Rattle.base.specs.Verdict.{Gives};
 ghost use Rattle.base.specs.Written.{Writes};
-ghost use Rattle.collector.specs.Collector.{said_status};
 ghost use Rattle.collector.specs.Stored.{collector_of, well_stored};
 ghost use Rattle.suites.specs.GetChannelCipherSuites.{zeros};
-ghost use Rattle.by_suite.specs.ChannelCollector.{agrees, from_fits, from_for, heard_on, lent_as, list_from, made_for, no_collector, said_from, standing_from, suites_from, taken_fits, taking_from};
-ghost use Rattle.by_suite.specs.GetChannelCipherSuites.{is_channel, said_heard};
+ghost use Rattle.by_suite.specs.ChannelCollector.{agrees, from_fits, from_for, heard_on, lent_as, list_from, made_for, standing_from, suites_from, taken_fits, taking_from};
+ghost use Rattle.by_suite.specs.GetChannelCipherSuites.{is_channel};
 
-use crate::get_channel_cipher_suites::{Heard, number_in};
-use base::connection::{Channel, ChannelAnswer};
+use crate::get_channel_cipher_suites::number_in;
+use base::connection::Channel;
 use base::refusal::Refusal;
-use base::verdict::Verdict;
-use base::written::Written;
 use collector::{Collector, Status, answer_in, list_in, status_in};
 use suites::collected::collected_suites_in;
 
@@ -31,37 +28,27 @@ pub struct ChannelCollector {
 
 #[derive(Drop)]
 pub struct ChannelAnswered {
-    pub verdict: Verdict,
+    pub verdict: Result<(), Refusal>,
     pub collector: ChannelCollector,
-}
-
-// Where a fresh collector takes answers from; refused 6.
-#[derive(Drop)]
-pub enum FromAnswer {
-    From(u8),
-    NoChannel,
 }
 
 fn is_channel(number: u8) -> bool
     ensures { result ≡ is_channel number }
 {
-    match Channel::new(number) {
-        ChannelAnswer::Channel(_) => true,
-        ChannelAnswer::NoChannel => false,
-    }
+    Channel::new(number).is_ok()
 }
 
 // Where a fresh collector for a channel takes answers from.
-pub fn fresh_from(channel: u8) -> FromAnswer
-    ensures { said_from result ≡ from_for channel }
+pub fn fresh_from(channel: u8) -> Result<u8, Refusal>
+    ensures { said result ≡ from_for channel }
 {
     if channel == CURRENT {
-        return FromAnswer::From(0);
+        return Ok(0);
     }
-    let ChannelAnswer::Channel(_) = Channel::new(channel) else {
-        return FromAnswer::NoChannel;
+    let Ok(_) = Channel::new(channel) else {
+        return Err(Refusal::NoChannel);
     };
-    FromAnswer::From(channel + 1)
+    Ok(channel + 1)
 }
 
 fn agrees(from: u8, number: u8) -> bool
@@ -73,21 +60,13 @@ fn agrees(from: u8, number: u8) -> bool
     from - 1 == number
 }
 
-fn larger(a: u8, b: u8) -> u8
-    ensures { result ≡ max a b }
-{
-    if a < b { b } else { a }
-}
-
 // No part was heard: a largest byte, which the compiler vectorises.
 fn silent(marks: &[u8]) -> bool
     ensures { result ≡ zeros marks.now }
 {
     let mut most: u8 = 0;
-    let mut i: usize = 0;
-    while i < marks.len() {
-        most = larger(most, marks[i]);
-        i += 1;
+    for mark in marks {
+        most = most.max(*mark);
     }
     most == 0
 }
@@ -111,32 +90,27 @@ fn from_fits(channel: u8, from: u8, marks: &[u8]) -> bool
     if channel == CURRENT {
         return taken_fits(from, marks);
     }
-    let FromAnswer::From(start) = fresh_from(channel) else {
+    let Ok(start) = fresh_from(channel) else {
         return false;
     };
     from == start
 }
 
 // The channel's number in an answer that may be taken, before the collector itself is tested.
-fn heard_by(channel: u8, from: u8, marks: &[u8], index: u8, response: &[u8]) -> Heard
-    ensures { said_heard result ≡ heard_on channel from marks.now index response.now }
+fn heard_by(channel: u8, from: u8, marks: &[u8], index: u8, response: &[u8]) -> Result<u8, Refusal>
+    ensures { said result ≡ heard_on channel from marks.now index response.now }
 {
     if !from_fits(channel, from, marks) {
-        return Heard::Refused(Refusal::NoForm);
+        return Err(Refusal::NoForm);
     }
     if Collector::LAST_INDEX < index {
-        return Heard::Refused(Refusal::BadIndex);
+        return Err(Refusal::BadIndex);
     }
-    let heard = number_in(response);
-    match heard {
-        Heard::Number(number) => {
-            if agrees(from, number) {
-                return heard;
-            }
-            Heard::Refused(Refusal::WrongChannel)
-        }
-        Heard::Refused(_) => heard,
+    let number = number_in(response)?;
+    if agrees(from, number) {
+        return Ok(number);
     }
+    Err(Refusal::WrongChannel)
 }
 
 // A refusal that comes behind the test: 9 is given first.
@@ -149,9 +123,8 @@ fn behind_test(
     ensures { row result ≡ (if well_stored (collector_of bytes.now marks.now known.now) then row refusal else row Refusal.NoForm) }
 {
     match status_in(bytes, marks, known) {
-        Status::Complete(_) => refusal,
-        Status::Missing(_) => refusal,
-        Status::NoForm => Refusal::NoForm,
+        Ok(_) => refusal,
+        Err(_) => Refusal::NoForm,
     }
 }
 
@@ -164,22 +137,16 @@ pub fn answer_from(
     known: &mut [u8; Collector::KNOWN],
     index: u8,
     response: &[u8],
-) -> Verdict
+) -> Result<(), Refusal>
     ensures { Gives (taking_from (lent_as channel from.old bytes.old marks.old known.old) index response.now) (lent_as channel from.old bytes.old marks.old known.old) result (lent_as channel from.new bytes.new marks.new known.new) }
 {
-    let heard = heard_by(channel, *from, marks, index, response);
-    match heard {
-        Heard::Refused(refusal) => Verdict::Refused(behind_test(bytes, marks, known, refusal)),
-        Heard::Number(number) => {
-            let verdict = answer_in(bytes, marks, known, index, &response[1..]);
-            match verdict {
-                Verdict::Accepted => {
-                    *from = number + 1;
-                    Verdict::Accepted
-                }
-                Verdict::Refused(refusal) => Verdict::Refused(refusal),
-            }
+    match heard_by(channel, *from, marks, index, response) {
+        Ok(number) => {
+            answer_in(bytes, marks, known, index, &response[1..])?;
+            *from = number + 1;
+            Ok(())
         }
+        Err(refusal) => Err(behind_test(bytes, marks, known, refusal)),
     }
 }
 
@@ -189,13 +156,13 @@ pub fn status_from(
     bytes: &[u8; Collector::CAPACITY],
     marks: &[u8; Collector::PARTS],
     known: &[u8; Collector::KNOWN],
-) -> Status
-    ensures { said_status result ≡ standing_from (lent_as channel from bytes.now marks.now known.now) }
+) -> Result<Status, Refusal>
+    ensures { said result ≡ standing_from (lent_as channel from bytes.now marks.now known.now) }
 {
     if from_fits(channel, from, marks) {
         return status_in(bytes, marks, known);
     }
-    Status::NoForm
+    Err(Refusal::NoForm)
 }
 
 // The list, once it is complete, at the start of out.
@@ -206,13 +173,13 @@ pub fn list_from(
     marks: &[u8; Collector::PARTS],
     known: &[u8; Collector::KNOWN],
     out: &mut [u8],
-) -> Written
+) -> Result<usize, Refusal>
     ensures { Writes (list_from (lent_as channel from bytes.now marks.now known.now)) result out.old out.new }
 {
     if from_fits(channel, from, marks) {
         return list_in(bytes, marks, known, out);
     }
-    Written::Refused(Refusal::NoForm)
+    Err(Refusal::NoForm)
 }
 
 // Once the list is complete, its suites' numbers at the start of out.
@@ -223,95 +190,83 @@ pub fn suites_from(
     marks: &[u8; Collector::PARTS],
     known: &[u8; Collector::KNOWN],
     out: &mut [u8],
-) -> Written
+) -> Result<usize, Refusal>
     ensures { Writes (suites_from (lent_as channel from bytes.now marks.now known.now)) result out.old out.new }
 {
     if from_fits(channel, from, marks) {
         return collected_suites_in(bytes, marks, known, out);
     }
-    Written::Refused(Refusal::NoForm)
+    Err(Refusal::NoForm)
 }
 
 impl ChannelCollector {
-    pub fn made_for(channel: u8) -> ChannelAnswered
-        ensures { Gives (made_for channel) no_collector result.verdict result.collector }
+    pub fn made_for(channel: u8) -> Result<Self, Refusal>
+        ensures { said result ≡ made_for channel }
     {
-        let collector = Collector::fresh();
-        match fresh_from(channel) {
-            FromAnswer::From(from) => ChannelAnswered {
-                verdict: Verdict::Accepted,
-                collector: ChannelCollector {
-                    channel,
-                    from,
-                    collector,
-                },
-            },
-            FromAnswer::NoChannel => ChannelAnswered {
-                verdict: Verdict::Refused(Refusal::NoChannel),
-                collector: ChannelCollector {
-                    channel: 0,
-                    from: 0,
-                    collector,
-                },
-            },
-        }
+        Ok(ChannelCollector {
+            channel,
+            from: fresh_from(channel)?,
+            collector: Collector::fresh(),
+        })
     }
 
     pub fn answer(self, index: u8, response: &[u8]) -> ChannelAnswered
         ensures { Gives (taking_from self index response.now) self result.verdict result.collector }
     {
-        let mut collector = self.collector;
-        let mut from = self.from;
-        let mut marks = collector.marks;
-        let mut known = collector.known;
+        let mut left = self;
         let verdict = answer_from(
-            self.channel,
-            &mut from,
-            &mut collector.bytes,
-            &mut marks,
-            &mut known,
+            left.channel,
+            &mut left.from,
+            &mut left.collector.bytes,
+            &mut left.collector.marks,
+            &mut left.collector.known,
             index,
             response,
         );
-        collector.marks = marks;
-        collector.known = known;
         ChannelAnswered {
             verdict,
-            collector: ChannelCollector {
-                channel: self.channel,
-                from,
-                collector,
-            },
+            collector: left,
         }
     }
 
-    pub fn status(self) -> Status
-        ensures { said_status result ≡ standing_from self }
+    pub fn status(self) -> Result<Status, Refusal>
+        ensures { said result ≡ standing_from self }
     {
-        let collector = self.collector;
-        let bytes = collector.bytes;
-        let marks = collector.marks;
-        let known = collector.known;
-        status_from(self.channel, self.from, &bytes, &marks, &known)
+        let held = &self.collector;
+        status_from(
+            self.channel,
+            self.from,
+            &held.bytes,
+            &held.marks,
+            &held.known,
+        )
     }
 
-    pub fn list(self, out: &mut [u8]) -> Written
+    pub fn list(self, out: &mut [u8]) -> Result<usize, Refusal>
         ensures { Writes (list_from self) result out.old out.new }
     {
-        let collector = self.collector;
-        let bytes = collector.bytes;
-        let marks = collector.marks;
-        let known = collector.known;
-        list_from(self.channel, self.from, &bytes, &marks, &known, out)
+        let held = &self.collector;
+        list_from(
+            self.channel,
+            self.from,
+            &held.bytes,
+            &held.marks,
+            &held.known,
+            out,
+        )
     }
 
-    pub fn suites(self, out: &mut [u8]) -> Written
+    pub fn suites(self, out: &mut [u8]) -> Result<usize, Refusal>
         ensures { Writes (suites_from self) result out.old out.new }
     {
-        let collector = self.collector;
-        let bytes = collector.bytes;
-        let marks = collector.marks;
-        let known = collector.known;
-        suites_from(self.channel, self.from, &bytes, &marks, &known, out)
+        let held = &self.collector;
+        suites_from(
+            self.channel,
+            self.from,
+            &held.bytes,
+            &held.marks,
+            &held.known,
+            out,
+        )
     }
 }

@@ -9,32 +9,34 @@ use native.Mathlib.Omega.{arith}
 use lib.Dec.{eqb, ltb}
 use lib.ListN.{length, take, drop, get_or}
 use borrow.Author.Tests.{eq-eqb, ne_eqb, ltb-false}
-use Rattle.std.specs.Prelude.{if◌then◌else◌}
+use Rattle.std.specs.Prelude.{if◌then◌else◌, is_ok, Result, Ok, Err}
 use Rattle.base.specs.Connection.{channel_of}
 use Rattle.base.specs.Outcome.{Outcome, accepted, refused, ◌>>=◌, is_accepted}
-use Rattle.base.specs.Refusal.{refusal, row}
+use Rattle.base.specs.Refusal.{refusal, row, said}
 use Rattle.base.specs.Verdict.{Gives}
 use Rattle.base.specs.declared.connection.Channel.{Channel}
 use Rattle.base.specs.declared.refusal.Refusal.{Refusal}
 use Rattle.base.specs.declared.refusal.Refusal.TheVariants.{NoForm}
-use Rattle.base.specs.declared.verdict.Verdict.{Verdict}
-use Rattle.base.specs.declared.verdict.Verdict.TheVariants.{Accepted, Refused}
 use Rattle.base.proofs.Outcome.{apart, otherwise, when, steps}
 use Rattle.base.proofs.connection.Laws.{channel_iff, channel_small}
-use Rattle.base.proofs.verdict.Laws.{giving, refusing, gave, fell}
-use Rattle.collector.specs.Collector.{◌and◌, Standing}
+use Rattle.base.proofs.Verdict.{giving, refusing, gave, fell}
+use Rattle.collector.specs.Collector.{◌and◌}
 use Rattle.collector.specs.Stored.{well_stored, taking_stored, standing_stored}
 use Rattle.collector.specs.declared.Collector.{Collector}
+use Rattle.collector.specs.declared.Status.{Status}
 use Rattle.collector.proofs.Basic.{bool_cases, eq_or_ne, true_not_false}
 use Rattle.collector.proofs.Stored.{untested, parts_formed}
 use Rattle.suites.specs.GetChannelCipherSuites.{zeros}
 use Rattle.suites.proofs.get_channel_cipher_suites.Laws.{zeros_stop, zeros_on, zeros_end}
 use Rattle.by_suite.specs.ChannelCollector.{agrees, channel_collector, current, from_fits, from_for, heard_by, heard_on, start_of, tested_from, taking_from}
-use Rattle.by_suite.specs.GetChannelCipherSuites.{is_channel, list_in, number_in, said_heard}
+use Rattle.by_suite.specs.GetChannelCipherSuites.{is_channel, list_in, number_in}
 use Rattle.by_suite.specs.declared.channel_collector.ChannelCollector.{ChannelCollector}
-use Rattle.by_suite.specs.declared.get_channel_cipher_suites.Heard.{Heard}
-use Rattle.by_suite.specs.declared.get_channel_cipher_suites.Heard.TheVariants as Heards
 use Rattle.by_suite.proofs.get_channel_cipher_suites.Laws.{NumberOf, number_of}
+
+-- a number makes a channel
+pub is_made : {A : Type 0} (r : Result A Refusal) → is_ok r ≡ is_accepted (said r)
+is_made (Ok a) = refl
+is_made (Err r) = refl
 
 -- a test of one less
 pub pred_eqb : (f n : ℕ) → (f ≡ 0 → ⊥) → eqb (f - 1) n ≡ eqb f (suc n)
@@ -98,10 +100,10 @@ heard_as from i d n e =
 
 -- a refusal, by its row
 
-abbrev said : {A : Type 0} → ℕ × List ℕ → Outcome A
-said x = refused x.0 x.1
+abbrev by_row : {A : Type 0} → ℕ × List ℕ → Outcome A
+by_row x = refused x.0 x.1
 
-as_nine : {A B : Type 0} (x : ℕ × List ℕ) → said {A = A} x ≡ refused 9 [] → said {A = B} x ≡ refused 9 []
+as_nine : {A B : Type 0} (x : ℕ × List ℕ) → by_row {A = A} x ≡ refused 9 [] → by_row {A = B} x ≡ refused 9 []
 as_nine x e = let p : x.0 ≡ 9 = cc in let q : x.1 ≡ [] = cc in rw (p, q)
 
 -- the tests of an entry
@@ -122,48 +124,47 @@ module _ (s : ChannelCollector) where
     passed n f h =
         fit _ f (λ w. rw (h, untested s.collector i (list_in d) w)) ∙ rw h
 
+    -- where it is refused, it is refused so behind the test
+    module _ (r r' : Refusal) (e : refusal r ≡ heard_on s.channel s.from s.collector.marks i d) (b : row r' ≡ (if well_stored s.collector then row r else row NoForm)) where
+      stopped : taking_from s i d ≡ refusal r'
+      unfolding taking_from
+      stopped = go (from_fits s.channel s.from s.collector.marks) (well_stored s.collector) e b
+        where
+          go : (f w : Bool) → refusal r ≡ (if f then heard_by s.from i d else refused 9 []) → row r' ≡ (if w then row r else row NoForm)
+              → (if f and w then (heard_by s.from i d >>= λ n. taking_stored s.collector i (list_in d) >>= λ c. accepted (channel_collector s.channel (suc n) c)) else refused 9 []) ≡ refusal r'
+          go true true e q = rw (← e) (ap by_row (sym q))
+          go true false e q = ap by_row (sym q)
+          go false true e q = sym (as_nine (row r) e) ∙ ap by_row (sym q)
+          go false false e q = ap by_row (sym q)
+
+      pub refused_behind : Gives (taking_from s i d) s (Err r') s
+      refused_behind = refusing s r' stopped
+
     -- what its first byte says
-    module _ (v : Heard) (said-is : said_heard v ≡ heard_on s.channel s.from s.collector.marks i d) where
-      -- where it is refused, it is refused so behind the test
-      module _ (r r' : Refusal) (e : v ≡ Heards.Refused r) (b : row r' ≡ (if well_stored s.collector then row r else row NoForm)) where
-        stopped : taking_from s i d ≡ refusal r'
-        unfolding taking_from
-        stopped = go (from_fits s.channel s.from s.collector.marks) (well_stored s.collector) (ap said_heard (sym e) ∙ said-is) b
-          where
-            go : (f w : Bool) → refusal r ≡ (if f then heard_by s.from i d else refused 9 []) → row r' ≡ (if w then row r else row NoForm)
-                → (if f and w then (heard_by s.from i d >>= λ n. taking_stored s.collector i (list_in d) >>= λ c. accepted (channel_collector s.channel (suc n) c)) else refused 9 []) ≡ refusal r'
-            go true true e q = rw (← e) (ap said (sym q))
-            go true false e q = ap said (sym q)
-            go false true e q = sym (as_nine (row r) e) ∙ ap said (sym q)
-            go false false e q = ap said (sym q)
+    module _ (n : ℕ) (e : accepted n ≡ heard_on s.channel s.from s.collector.marks i d) where
+      heard_is : (from_fits s.channel s.from s.collector.marks ≡ true) × (heard_by s.from i d ≡ accepted n)
+      heard_is = when 9 (from_fits s.channel s.from s.collector.marks) (sym e)
 
-        pub refused_behind : Gives (taking_from s i d) s (Refused r') s
-        refused_behind = refusing s r' stopped
+      pub number_is : NumberOf d n
+      number_is = number_of d n (heard_as s.from i d n heard_is.1).is
 
-      module _ (n : ℕ) (e : v ≡ Heards.Number n) where
-        heard_is : (from_fits s.channel s.from s.collector.marks ≡ true) × (heard_by s.from i d ≡ accepted n)
-        heard_is = when 9 (from_fits s.channel s.from s.collector.marks) (sym said-is ∙ ap said_heard e)
+      -- what the collector makes of the rest
+      module _ {part : List ℕ} (q : part ≡ list_in d) {k : Collector} where
+        pub taken_as : Gives (taking_stored s.collector i part) s.collector (Ok tt) k → Gives (taking_from s i d) s (Ok tt) (channel_collector s.channel (n + 1) k)
+        taken_as g =
+            let t : taking_stored s.collector i (list_in d) ≡ accepted k = ap (taking_stored s.collector i) (sym q) ∙ gave (taking_stored s.collector i part) g refl in
+            rw (add-one n) (giving s (channel_collector s.channel (suc n) k) (passed n heard_is.0 heard_is.1 ∙ rw t))
 
-        pub number_is : NumberOf d n
-        number_is = number_of d n (heard_as s.from i d n heard_is.1).is
-
-        -- what the collector makes of the rest
-        module _ (part : List ℕ) (q : part ≡ list_in d) (w : Verdict) (k : Collector) (g : Gives (taking_stored s.collector i part) s.collector w k) where
-          pub taken_as : w ≡ Accepted → Gives (taking_from s i d) s Accepted (channel_collector s.channel (n + 1) k)
-          taken_as y =
-              let t : taking_stored s.collector i (list_in d) ≡ accepted k = ap (taking_stored s.collector i) (sym q) ∙ gave (taking_stored s.collector i part) g y in
-              rw (add-one n) (giving s (channel_collector s.channel (suc n) k) (passed n heard_is.0 heard_is.1 ∙ rw t))
-
-          pub refused_as : (r : Refusal) → w ≡ Refused r → Gives (taking_from s i d) s (Refused r) (channel_collector s.channel s.from k)
-          refused_as r y =
-              let (o, z) = fell (taking_stored s.collector i part) r g y in
-              let t : taking_stored s.collector i (list_in d) ≡ refusal r = ap (taking_stored s.collector i) (sym q) ∙ o in
-              rw z (refusing s r (passed n heard_is.0 heard_is.1 ∙ rw t))
+        pub refused_as : (r : Refusal) → Gives (taking_stored s.collector i part) s.collector (Err r) k → Gives (taking_from s i d) s (Err r) (channel_collector s.channel s.from k)
+        refused_as r g =
+            let (o, z) = fell (taking_stored s.collector i part) r g refl in
+            let t : taking_stored s.collector i (list_in d) ≡ refusal r = ap (taking_stored s.collector i) (sym q) ∙ o in
+            rw z (refusing s r (passed n heard_is.0 heard_is.1 ∙ rw t))
 
 -- what a status says of the test
 
 module _ (k : Collector) where
-  pub well_told : (t : Standing) → accepted t ≡ standing_stored k → well_stored k ≡ true
+  pub well_told : (t : Status) → accepted t ≡ standing_stored k → well_stored k ≡ true
   well_told t e = ⊎_elim (λ (w : well_stored k ≡ true). w) (λ (w : well_stored k ≡ false). absurd (apart (sym (rw w at e)))) (bool_cases (well_stored k))
 
   pub ill_told : refused 9 [] ≡ standing_stored k → well_stored k ≡ false

@@ -10,31 +10,26 @@ use borrow.Rule.Slice.PartMut.{mid_of}
 use lib.Dec.{eqb, lit<, ltb}
 use lib.ListN.{length, take, drop, replicate, length-append, length-take, length-drop}
 use lib.Seq.{take_all, take-append_seam}
-use Rattle.std.specs.Prelude.{if◌then◌else◌}
+use Rattle.std.specs.Prelude.{if◌then◌else◌, Result, Ok, Err}
 use Rattle.base.specs.Connection.{channel_of, channel_field}
 use Rattle.base.specs.Field.{Bytes, byte, within}
 use Rattle.base.specs.Outcome.{Outcome, accepted, refused, ◌>>=◌}
-use Rattle.base.specs.Refusal.{refusal}
-use Rattle.base.specs.Verdict.{Gives}
-use Rattle.base.specs.Written.{Writes, length_of, said_written, written}
+use Rattle.base.specs.Refusal.{refusal, said}
+use Rattle.base.specs.Written.{Writes, length_of, written}
 use Rattle.base.specs.declared.connection.Channel.{Channel}
 use Rattle.base.specs.declared.refusal.Refusal.{Refusal}
-use Rattle.base.specs.declared.verdict.Verdict.{Verdict}
-use Rattle.base.specs.declared.verdict.Verdict.TheVariants.{Refused}
-use Rattle.base.specs.declared.written.Written.{Written}
 use Rattle.base.proofs.Outcome.{apart, otherwise, when, unfaulted, Only, steps, only_steps, only_refused, inside, ranged, only_ranged}
 use Rattle.base.proofs.Rows.{NoForm, nine, Strict, strict}
 use Rattle.base.proofs.connection.Laws.{channel_iff, channel_small, begins_only}
 use Rattle.base.proofs.field.Laws.{so_long}
-use Rattle.base.proofs.verdict.Laws.{refusing}
 use Rattle.base.proofs.written.Laws.{placed}
 use Rattle.collector.specs.Collector.{last_index, part_length}
 use Rattle.suites.specs.GetChannelCipherSuites as suites
-use Rattle.suites.specs.GetChannelCipherSuites.{no_suites, part, part_of, suites_bytes, zeros}
+use Rattle.suites.specs.GetChannelCipherSuites.{part, part_of, suites_bytes, zeros}
 use Rattle.suites.specs.declared.get_channel_cipher_suites.ChannelCipherSuites.{ChannelCipherSuites}
 use Rattle.suites.specs.declared.get_channel_cipher_suites.GetChannelCipherSuites.{GetChannelCipherSuites}
 use Rattle.suites.proofs.get_channel_cipher_suites.Laws.{suites_back, suites_given, suites_no_form}
-use Rattle.by_suite.specs.GetChannelCipherSuites.{Typed, answer, answer_bytes, answer_of, command, command_bytes, command_of, is_channel, list_by_suite, list_in, nibble, no_answer, number_in}
+use Rattle.by_suite.specs.GetChannelCipherSuites.{Typed, answer, answer_bytes, answer_of, command, command_bytes, command_of, is_channel, list_by_suite, list_in, nibble, number_in}
 use Rattle.by_suite.specs.declared.get_channel_cipher_suites.BySuite.{BySuite}
 use Rattle.by_suite.specs.declared.get_channel_cipher_suites.ChannelSuites.{ChannelSuites}
 
@@ -128,23 +123,13 @@ number_of (x ∷ l) n e =
     let z : nibble x ≡ n = cc in
     record { some = omega arith; short = ltb-false part_length (length l) p; legal = rw (← z) q; first = z }
 
--- The reading, given what its parts say.
-
-module _ (s : List ℕ) where
-  pub refused_so : (r : Refusal) → number_in s ≡ refusal r → Gives (answer_of s) no_answer (Refused r) no_answer
-  refused_so r e = refusing no_answer r (rw e)
-
-  module _ (n : ℕ) (heard : number_in s ≡ accepted n) where
-    pub no_channel : (r : Refusal) → channel_of n ≡ refusal r → Gives (answer_of s) no_answer (Refused r) no_answer
-    no_channel r e = refusing no_answer r (rw (heard, e))
-
-    behind : mid_of 1 (length s - 1) s ≡ list_in s
-    behind = take_all (length s - 1) (list_in s) (rw length-drop (omega arith))
-
-    pub answer_read : (c : Channel) {v : Verdict} {suites : ChannelCipherSuites} → channel_of n ≡ accepted c → Gives (part_of (mid_of 1 (length s - 1) s)) no_suites v suites → Gives (answer_of s) no_answer v (answer c suites)
-    answer_read c {v} {suites} e g =
-        let f : Gives (accepted (part (list_in s))) no_suites v suites = rw (behind, le-ltb part_length (length (list_in s)) (number_of s n heard).short) at g in
-        rw (heard, e) (record { says = f.says; holds = ap (answer c) f.holds })
+-- the part behind it is read as it is
+pub behind : (s : List ℕ) (n : ℕ) → number_in s ≡ accepted n → part_of (mid_of 1 (length s - 1) s) ≡ accepted (part (list_in s))
+behind s n heard =
+    let k = number_of s n heard in
+    let some = k.some in
+    let all : mid_of 1 (length s - 1) s ≡ list_in s = take_all (length s - 1) (list_in s) (rw length-drop (omega arith)) in
+    rw (all, le-ltb part_length (length (list_in s)) k.short)
 
 -- The writing, given what its parts do.
 
@@ -157,20 +142,20 @@ module _ (c : ChannelCipherSuites) where
       let h = ltb-false part_length c.data_length p in
       rw (← z, length-take) (omega arith)
 
-  module _ {r : Written} {after : List ℕ} (w : Writes (suites_bytes c) r (replicate part_length 0) after) where
-    said : said_written r ≡ length_of (suites_bytes c)
+  module _ {r : Result ℕ Refusal} {after : List ℕ} (w : Writes (suites_bytes c) r (replicate part_length 0) after) where
+    answered : said r ≡ length_of (suites_bytes c)
     unfolding written
-    said = w.answers ∙ go (suites_bytes c) short
+    answered = w.answers ∙ go (suites_bytes c) short
       where
         go : (m : Outcome (List ℕ)) → ((s : List ℕ) → m ≡ accepted s → length s ≤ part_length) → length_of (written m (replicate part_length 0)) ≡ length_of m
         go (accepted s) h = rw (le-ltb part_length (length s) (h s refl))
         go (refused n v) h = refl
 
     -- the list's part was written to the start
-    pub part_put : (l : ℕ) → r ≡ Written.Length l → (l ≤ part_length) × (l ≤ length after) × (suites_bytes c ≡ accepted (take l after))
+    pub part_put : (l : ℕ) → r ≡ Ok l → (l ≤ part_length) × (l ≤ length after) × (suites_bytes c ≡ accepted (take l after))
     unfolding length_of
     part_put l e =
-        let (s, f, g) = steps (suites_bytes c) (λ s. accepted (length s)) (sym said ∙ ap said_written e) in
+        let (s, f, g) = steps (suites_bytes c) (λ s. accepted (length s)) (sym answered ∙ ap said e) in
         let z : length s ≡ l = cc in
         let h = short s f in
         let rest = drop {A = ℕ} (length s) (replicate part_length 0) in
@@ -179,9 +164,9 @@ module _ (c : ChannelCipherSuites) where
         (omega arith, omega (arith, ap length p, length-append s rest), f ∙ ap accepted (cc))
 
     -- or it was refused
-    pub part_not : (q : Refusal) → r ≡ Written.Refused q → suites_bytes c ≡ refusal q
+    pub part_not : (q : Refusal) → r ≡ Err q → suites_bytes c ≡ refusal q
     unfolding length_of
-    part_not q e = go (suites_bytes c) (sym (ap said_written e) ∙ said)
+    part_not q e = go (suites_bytes c) (sym (ap said e) ∙ answered)
       where
         go : (m : Outcome (List ℕ)) → refusal {A = ℕ} q ≡ length_of m → m ≡ refusal q
         go (accepted s) e = absurd (apart e)
@@ -191,8 +176,8 @@ module _ (c : ChannelCipherSuites) where
 pub room_before : (n l : ℕ) (after : List ℕ) → l ≤ length after → l + 1 ≤ length (n ∷ (after ++ []))
 room_before n l after h = omega (arith, length-append after [])
 
-pub channel_before : (n l : ℕ) (after : List ℕ) → mid_of 0 (l + 1 - 0) (n ∷ (after ++ [])) ≡ n ∷ take l after
-channel_before n l after = let z : l + 1 - 0 ≡ suc l = omega arith in rw (z, append-nil)
+pub channel_before : (n l : ℕ) (after : List ℕ) → take (l + 1) (n ∷ (after ++ [])) ≡ n ∷ take l after
+channel_before n l after = let z : l + 1 ≡ suc l = omega arith in rw (z, append-nil)
 
 -- The answer.
 

@@ -15,4 +15,4 @@ returns-in_default c = rw (← c.in_default.ensures)
 pub returns : goal.returns
 unfolding is_channel
 returns c =
-    rw (← c.in-Channel.ensures, ne_eqb c.args.channel current c.if-channel-eq-CURRENT.false, add-one)
+    rw (← c.in-Ok.ensures, ne_eqb c.args.channel current c.if-channel-eq-CURRENT.false, add-one)

@@ -1,12 +1,9 @@
-use mathlib.Core.Path.{ap}
+use mathlib.Core.Path.{ap, ◌∙◌}
 use Rattle.base.specs.Outcome.{is_accepted}
 use Rattle.by_suite.specs.GetChannelCipherSuites.{is_channel}
+use Rattle.by_suite.proofs.channel_collector.Laws.{is_made}
 use Rattle.by_suite.proofs.channel_collector.is_channel.Goals as goal
 
-pub returns-in-Channel : goal.returns-in-Channel
+pub returns : goal.returns
 unfolding is_channel
-returns-in-Channel c = ap is_accepted c.in-Channel.ensures
-
-pub returns-in-NoChannel : goal.returns-in-NoChannel
-unfolding is_channel
-returns-in-NoChannel c = ap is_accepted c.in-NoChannel.ensures
+returns c = c.is_ok.ensures.value ∙ is_made c.new.result ∙ ap is_accepted c.new.ensures

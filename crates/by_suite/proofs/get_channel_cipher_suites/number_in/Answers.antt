@@ -13,4 +13,4 @@ pub returns : goal.returns
 unfolding is_channel
 returns c =
     let s = c.args.response.now in
-    rw (first_byte s (omega arith) (omega arith), ← c.bits-number.ensures, ← c.in-Channel.ensures)
+    rw (first_byte s (omega arith) (omega arith), ← c.bits-number.ensures, ← c.in-Ok.ensures)

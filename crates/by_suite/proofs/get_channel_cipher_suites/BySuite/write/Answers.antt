@@ -1,17 +1,14 @@
-use borrow.Author.Tests.{lt-ltb, le-ltb}
-use native.Mathlib.Omega.{arith}
-use Rattle.base.specs.declared.refusal.Refusal.TheVariants.{NoForm}
+use mathlib.Core.Path.{◌≡◌}
+use Rattle.std.proofs.Common.{Err, rules}
 use Rattle.base.proofs.written.Laws.{refusing}
-use Rattle.collector.specs.Collector.{last_index}
 use Rattle.by_suite.proofs.get_channel_cipher_suites.BySuite.write.Goals as goal
 
-pub returns-in_default : goal.returns-in_default
-returns-in_default c =
-    refusing NoForm c.args.out.now (rw (← c.in_default.ensures))
+pub returns-in_err-number : goal.returns-in_err-number
+returns-in_err-number c =
+    let e : c.from_residual.result ≡ Err c.in_err-number.field-0.0 = search rules in
+    rw e (refusing c.in_err-number.field-0.0 c.args.out.now (rw (← c.in_err-number.ensures)))
 
-pub returns-then-index-gt-LAST_INDEX : goal.returns-then-index-gt-LAST_INDEX
-returns-then-index-gt-LAST_INDEX c =
-    let a = c.args in
-    let i = a.self.list_index in
-    refusing NoForm a.out.now
-    (rw (← c.in-Number.ensures) (simp (le-ltb i 0 (omega arith), lt-ltb last_index i (omega arith))))
+pub returns-in_err-index : goal.returns-in_err-index
+returns-in_err-index c =
+    let e : c.from_residual-in_err-index.result ≡ Err c.in_err-index.field-0.0 = search rules in
+    rw e (refusing c.in_err-index.field-0.0 c.args.out.now (rw (← c.in_ok-number.ensures, ← c.in_err-index.ensures)))
