@@ -1,27 +1,17 @@
 -- Activate Session. Document 01, refusals 1, 3, 4 and 5, "activation 1, then 4, 3, 5"; IPMI 2.0, 22.17.
-use Rattle.std.specs.Prelude.{ℕ, ◌^◌, ◌<◌, List, [], ◌∷◌, ◌++◌, length, take, drop, replicate, if◌then◌else◌}
+use Rattle.std.specs.Prelude.{ℕ, ◌^◌, ◌<◌, List, [], ◌∷◌, ◌++◌, length, take, drop, if◌then◌else◌}
 use Rattle.base.specs.Choice.{◌<?◌}
 use Rattle.base.specs.Field.{Array, byte}
 use Rattle.base.specs.Little.{little, little_bytes}
 use Rattle.base.specs.Named.{named, required}
 use Rattle.base.specs.Outcome.{Outcome, accepted, refused, ◌>>=◌}
-use Rattle.base.specs.Refusal.{refusal}
 use Rattle.base.specs.Request.{request}
 use Rattle.auth.specs.Auth.{auth_type_of, auth_type_value, auth_types, privileges, privilege_of, privilege_value}
 use Rattle.auth.specs.Session.{non_zero}
 use Rattle.auth.specs.declared.AuthType.{AuthType}
-use Rattle.auth.specs.declared.AuthType.TheVariants.{None}
 use Rattle.auth.specs.declared.PrivilegeLevel.{PrivilegeLevel}
-use Rattle.auth.specs.declared.PrivilegeLevel.TheVariants.{Callback}
 use Rattle.activation.specs.declared.activate_session.ActivateSession.{ActivateSession}
-use Rattle.activation.specs.declared.activate_session.BeginAnswer.{BeginAnswer}
-use Rattle.activation.specs.declared.activate_session.BeginAnswer.TheVariants.{Session, Refused}
 use Rattle.activation.specs.declared.activate_session.BeginSessionInfo.{BeginSessionInfo}
-
--- each case's outcome
-abbrev pub said_begin : BeginAnswer → Outcome BeginSessionInfo
-said_begin (Session session) = accepted session
-said_begin (Refused r) = refusal r
 
 -- The request: authentication type, level, challenge in sixteen bytes, sequence number in four.
 
@@ -29,10 +19,6 @@ said_begin (Refused r) = refusal r
 abbrev pub command : AuthType → PrivilegeLevel → List ℕ → ℕ → ActivateSession
 command kind level challenge first =
     record { auth_type = kind; maximum_privilege_level = level; challenge_string = challenge; initial_sequence_number = first }
-
--- stands beside a refusal
-abbrev pub no_command : ActivateSession
-no_command = command None Callback (replicate 16 0) 0
 
 -- what every command of the machine has: its number has four bytes
 pub record TypedCommand (c : ActivateSession) : Type 0 where

@@ -1,54 +1,33 @@
 -- Laws of Activate Session.
 use mathlib.Core.Path.{◌≡◌, refl, sym, ◌∙◌, ap}
 use mathlib.Core.List.{List, [], ◌∷◌, ◌++◌}
-use mathlib.Core.Option.{none, some}
+use Rattle.std.specs.Prelude.{Some, None}
 use Prim.Native.Nat.{ℕ, ◌≤◌}
 use native.Mathlib.Omega.{arith}
-use borrow.Author.Tests.{eq-eqb, ne_eqb, le-ltb}
+use borrow.Author.Tests.{le-ltb}
 use lib.Dec.{eqb, ltb}
-use lib.ListN.{length, take, drop, replicate, length-drop, length-take, length-replicate, length-append, take-append-drop}
+use lib.ListN.{length, take, drop, length-drop, length-take, length-append, take-append-drop}
 use lib.Seq.{drop_at, drop-cons, drop-drop, get_or-drop, take_at}
 use Rattle.base.specs.Field.{Bytes, bits, byte}
 use Rattle.base.specs.Little.{little, little_bytes}
 use Rattle.base.specs.Named.{named, required}
 use Rattle.base.specs.Outcome.{accepted, refused, ◌>>=◌}
-use Rattle.base.specs.Written.{Writes}
-use Rattle.base.specs.declared.written.Written.{Written}
 use Rattle.base.proofs.Named.{required_some}
 use Rattle.base.proofs.Outcome.{otherwise, steps}
 use Rattle.base.proofs.Rows.{NoForm, nine, Strict, strict}
 use Rattle.base.proofs.field.Laws.{so_long}
 use Rattle.base.proofs.little.Laws.{a_byte, are_bytes, bytes_both, bytes_are, bytes_back, bytes_drop, bytes_take, number_back, number_fits}
-use Rattle.base.proofs.written.Laws.{filled}
 use Rattle.activation.specs.ActivateSession.{Typed, TypedCommand, begin_bytes, begin_of, command, command_bytes, command_of}
 use Rattle.auth.specs.Auth.{auth_type_of, auth_type_value, auth_types, privileges, privilege_of, privilege_value}
 use Rattle.auth.specs.Session.{non_zero}
 use Rattle.auth.specs.declared.AuthType.{AuthType}
-use Rattle.auth.specs.declared.PrivilegeLevel.{PrivilegeLevel}
 use Rattle.activation.specs.declared.activate_session.BeginSessionInfo.{BeginSessionInfo}
 use Rattle.auth.proofs.Laws.{auth_again, auth_number_iff, nibble_iff, privilege_again}
-use Rattle.auth.proofs.Session.{sixteen, non_zero_only}
+use Rattle.auth.proofs.Session.{non_zero_only}
 
 -- the last four bytes of a request
-last_four : (s : List ℕ) → length s ≡ 22 → drop 18 s ≡ byte 18 s ∷ byte 19 s ∷ byte 20 s ∷ byte 21 s ∷ []
+pub last_four : (s : List ℕ) → length s ≡ 22 → drop 18 s ≡ byte 18 s ∷ byte 19 s ∷ byte 20 s ∷ byte 21 s ∷ []
 last_four s h = sym (so_long (drop 18 s) 4 (rw length-drop (omega arith))) ∙ simp get_or-drop
-
-pub request_read : (s after : List ℕ) (kind : AuthType) (level : PrivilegeLevel) (first : ℕ) {r : Written} → length s ≡ 22 → named auth_types (byte 0 s) ≡ some kind → named privileges (byte 1 s) ≡ some level
-    → Writes (accepted (take 16 (drop 2 s))) r (replicate 16 0) after → first ≡ little (byte 18 s ∷ byte 19 s ∷ byte 20 s ∷ byte 21 s ∷ []) → command_of s ≡ accepted (command kind level after first)
-request_read s after kind level first h e f w g = rw (eq-eqb (length s) 22 h, e, f, sixteen (take 16 (drop 2 s)) after (simp (length-take, length-drop) (omega arith)) w, g, last_four s h)
-
--- type, level and challenge, written over eighteen zeros
-pub head : (kind level : ℕ) (challenge after : List ℕ) {r : Written} → length challenge ≡ 16 → Writes (accepted ((kind ∷ level ∷ []) ++ challenge)) r (replicate 18 0) after → after ≡ kind ∷ level ∷ challenge
-head kind level challenge after h w = filled w (let z = length-replicate {A = ℕ} 18 0 in omega arith)
-
-pub no_level : (s : List ℕ) (kind : AuthType) (id : ℕ) → 10 ≤ length s → auth_type_of (byte 0 s) ≡ some kind → id ≡ little (byte 1 s ∷ byte 2 s ∷ byte 3 s ∷ byte 4 s ∷ []) → (id ≡ 0 → ⊥)
-    → privilege_of (byte 9 s) ≡ none → refused 5 (byte 9 s ∷ []) ≡ begin_of s
-no_level s kind id h e f ne g = rw (le-ltb (length s) 10 h, e, ← f, ne_eqb id 0 ne, g)
-
-pub response_read : (s : List ℕ) (kind : AuthType) (id : ℕ) (level : PrivilegeLevel) (session : BeginSessionInfo) → 10 ≤ length s → auth_type_of (byte 0 s) ≡ some kind
-    → id ≡ little (byte 1 s ∷ byte 2 s ∷ byte 3 s ∷ byte 4 s ∷ []) → (id ≡ 0 → ⊥) → privilege_of (byte 9 s) ≡ some level
-    → session ≡ record { auth_type = kind; session_id = id; initial_sequence_number = little (byte 5 s ∷ byte 6 s ∷ byte 7 s ∷ byte 8 s ∷ []); maximum_privilege_level = level } → accepted session ≡ begin_of s
-response_read s kind id level session h e f ne g z = rw (z, le-ltb (length s) 10 h, e, ← f, ne_eqb id 0 ne, g)
 
 -- The command.
 
@@ -104,9 +83,9 @@ pub begin_no_form : (b : BeginSessionInfo) → Typed b → NoForm begin_of begin
 begin_no_form b h = nine begin_of begin_bytes b (non_zero_only b.session_id _) (λ s e. begin_back b s h e) (λ s _ g. begin_given s b g)
 
 -- C-18. Where the low nibble of the authentication byte names a type, the answer is that of the byte without its high nibble ..
-pub reserved_ignored : (b : ℕ) (rest : List ℕ) (kind : AuthType) → auth_type_of b ≡ some kind → begin_of (b ∷ rest) ≡ begin_of (bits 0 4 b ∷ rest)
+pub reserved_ignored : (b : ℕ) (rest : List ℕ) (kind : AuthType) → auth_type_of b ≡ Some kind → begin_of (b ∷ rest) ≡ begin_of (bits 0 4 b ∷ rest)
 reserved_ignored b rest kind e = let z : bits 0 4 (bits 0 4 b) ≡ bits 0 4 b = omega arith in rw (z, e)
 
 -- .. and where it names none, 4 carries the whole byte.
-pub whole_byte_carried : (b : ℕ) (rest : List ℕ) → 9 ≤ length rest → auth_type_of b ≡ none → begin_of (b ∷ rest) ≡ refused 4 (b ∷ [])
+pub whole_byte_carried : (b : ℕ) (rest : List ℕ) → 9 ≤ length rest → auth_type_of b ≡ None → begin_of (b ∷ rest) ≡ refused 4 (b ∷ [])
 whole_byte_carried b rest h e = rw (le-ltb (length (b ∷ rest)) 10 (omega arith), e)
