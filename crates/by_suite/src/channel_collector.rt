@@ -232,41 +232,21 @@ impl ChannelCollector {
     pub fn status(self) -> Result<Status, Refusal>
         ensures { said result ≡ standing_from self }
     {
-        let held = &self.collector;
-        status_from(
-            self.channel,
-            self.from,
-            &held.bytes,
-            &held.marks,
-            &held.known,
-        )
+        let k = &self.collector;
+        status_from(self.channel, self.from, &k.bytes, &k.marks, &k.known)
     }
 
     pub fn list(self, out: &mut [u8]) -> Result<usize, Refusal>
         ensures { Writes (list_from self) result out.old out.new }
     {
-        let held = &self.collector;
-        list_from(
-            self.channel,
-            self.from,
-            &held.bytes,
-            &held.marks,
-            &held.known,
-            out,
-        )
+        let k = &self.collector;
+        list_from(self.channel, self.from, &k.bytes, &k.marks, &k.known, out)
     }
 
     pub fn suites(self, out: &mut [u8]) -> Result<usize, Refusal>
         ensures { Writes (suites_from self) result out.old out.new }
     {
-        let held = &self.collector;
-        suites_from(
-            self.channel,
-            self.from,
-            &held.bytes,
-            &held.marks,
-            &held.known,
-            out,
-        )
+        let k = &self.collector;
+        suites_from(self.channel, self.from, &k.bytes, &k.marks, &k.known, out)
     }
 }
