@@ -2,7 +2,6 @@
 use Prim.Native.Nat.{ℕ, ◌+◌, ◌*◌, ◌≤◌, ◌<◌}
 use mathlib.Core.Bool.{Bool, true, false}
 use mathlib.Core.List.{List, [], ◌∷◌}
-use mathlib.Core.Option.{Option, none, some}
 use mathlib.Core.Path.{◌≡◌, refl}
 use native.Mathlib.Omega.{arith}
 use borrow.Author.Tests.{ltb-true, ltb-false}
@@ -11,7 +10,7 @@ use lib.ListN.{length, get_or, take, drop, length-append, length-drop, length-ta
 use Rattle.auth.specs.GetChannelAuthenticationCapabilities.{best_auth, capabilities_of}
 use Rattle.auth.specs.declared.AuthType.{AuthType}
 use Rattle.auth.specs.declared.get_channel_authentication_capabilities.ChannelAuthenticationCapabilities.{ChannelAuthenticationCapabilities}
-use Rattle.std.specs.Prelude.{if◌then◌else◌}
+use Rattle.std.specs.Prelude.{Option, Some, None, if◌then◌else◌}
 use Rattle.base.specs.Connection.{channel_of}
 use Rattle.base.specs.Field.{Bytes, bits, byte, flag}
 use Rattle.base.specs.Outcome.{Outcome, accepted, refused, ◌>>=◌, faults_as}
@@ -19,11 +18,12 @@ use Rattle.base.specs.declared.connection.Channel.{Channel}
 use Rattle.base.proofs.little.Laws.{a_byte, all_bytes, bytes_take}
 use Rattle.access.specs.GetChannelAccess.{access_fields, access_of}
 use Rattle.access.specs.declared.get_channel_access.ChannelAccess.{ChannelAccess}
-use Rattle.collector.specs.Collector.{complete, has_part, is_complete, last_index, least_to, list_by, list_of, lowest, missing, part_length, parts, put, taking, well_formed}
+use Rattle.collector.specs.Collector.{has_part, is_complete, last_index, least_to, list_by, list_of, lowest, part_length, parts, put, taking, well_formed}
 use Rattle.collector.specs.Histories.{Typed}
 use Rattle.collector.specs.Parts.{Parts}
 use Rattle.collector.specs.Stored.{knowing, list_stored, parts_of, taking_stored, well_stored}
 use Rattle.collector.specs.declared.Collector.{Collector}
+use Rattle.collector.specs.declared.Status.TheVariants.{Complete, Missing}
 use Rattle.collector.proofs.Complete.{lowest_le}
 use Rattle.info.specs.GetChannelInfo.{info_fields, info_of}
 use Rattle.info.specs.declared.get_channel_info.ChannelInfo.{ChannelInfo}
@@ -80,8 +80,8 @@ access_room a =
 
 auth_room : (o : Option AuthType) → length (auth_text o) ≤ 1024
 unfolding auth_text
-auth_room (some t) = let n = name_fits t in simp length-append (omega arith)
-auth_room none = omega arith
+auth_room (Some t) = let n = name_fits t in simp length-append (omega arith)
+auth_room None = omega arith
 
 -- A refusal's number is small.
 
@@ -132,7 +132,7 @@ module _ (c : Collector) (t : Typed (parts_of c)) where
       whole : (n : ℕ) → length (suites_text (numbers_of (take n c.bytes))) ≤ 1024
       whole n = let l = t.bytes in let e = length-take n c.bytes in suites_room (take n c.bytes) (bytes_take n c.bytes t.small) (omega arith)
 
-      go : (w k : Bool) → length (listed ((if w then accepted (if k then complete (least_to c.marks parts) else missing (lowest c.marks parts)) else refused 9 []) >>= list_by c.bytes)).text ≤ 1024
+      go : (w k : Bool) → length (listed ((if w then accepted (if k then Complete (least_to c.marks parts) else Missing (lowest c.marks parts)) else refused 9 []) >>= list_by c.bytes)).text ≤ 1024
       go true true = whole (least_to c.marks parts)
       go true false = let l = lowest_le c.marks 64 in missing_room (lowest c.marks parts) (omega arith)
       go false k = refused_room 9 (omega arith)

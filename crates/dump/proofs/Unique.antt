@@ -2,8 +2,9 @@
 use mathlib.Core.Path.{◌≡◌}
 use mathlib.Core.List.{List}
 use Prim.Native.Nat.{ℕ}
-use Rattle.base.specs.declared.written.Written.{Written}
-use Rattle.base.proofs.Said.{written_one}
+use Rattle.std.specs.Prelude.{Result}
+use Rattle.base.specs.declared.refusal.Refusal.{Refusal}
+use Rattle.base.proofs.Said.{said_one}
 use Rattle.base.proofs.Unique.{Unique, both}
 use Rattle.collector.specs.declared.Collector.{Collector}
 use Rattle.dump.specs.Dump.{Answer, Answers}
@@ -17,13 +18,13 @@ pub answered : {X : Type 0} (make : Answered → List ℕ → Collector → X) {
 answered make {answer} {r} {r'} q q' =
     let s = q.says.writes in
     let s' = q'.says.writes in
-    let w = written_one r.written r'.written (both s.answers s'.answers) in
+    let w = said_one r.written r'.written (both s.answers s'.answers) in
     let k = both q.says.tells q'.says.tells in
     let e : r ≡ r' = made k w in
     rw (e, both s.leaves s'.leaves, both q.leaves q'.leaves)
   where
-    made : {k k' : Kind} {w w' : Written} → k ≡ k' → w ≡ w' → ◌≡◌ {A = Answered} (record { kind = k; written = w }) (record { kind = k'; written = w' })
+    made : {k k' : Kind} {w w' : Result ℕ Refusal} → k ≡ k' → w ≡ w' → ◌≡◌ {A = Answered} (record { kind = k; written = w }) (record { kind = k'; written = w' })
     made e f = rw (e, f)
 
 pub dump_unique : Unique p.dump.Kinds.ps p.dump.Kinds.r p.dump.Reads.Asked p.dump.Reads.Learnt
-dump_unique κs a ok z z' w w' q q' = (answered (λ r after left. r) q q', answered (λ r after left. (left.bytes, (left.marks, (left.known, (tt, (after, tt)))))) q q')
+dump_unique κs a ok z z' w w' q q' = (answered (λ r after left. r) q q', answered (λ r after left. (left, (tt, (after, tt)))) q q')

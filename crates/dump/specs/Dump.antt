@@ -1,5 +1,6 @@
 -- chandump but for reading and writing. Document 01, "chandump".
-use Rattle.std.specs.Prelude.{ℕ, Bool, true, false, List, [], ◌∷◌, ◌≡◌, length, drop, if◌then◌else◌}
+use Rattle.std.specs.Prelude.{ℕ, List, [], ◌∷◌, ◌≡◌, length, drop, if◌then◌else◌, nat_eq}
+use Rattle.std.specs.List.{starts_with}
 use Rattle.auth.specs.GetChannelAuthenticationCapabilities.{best_auth, capabilities_of}
 use Rattle.base.specs.Choice.{◌<?◌, ◌=?◌}
 use Rattle.base.specs.Field.{byte}
@@ -37,20 +38,14 @@ longest = 256
 abbrev pub letters : ℕ
 letters = 3
 
--- the line has the word's letters first
-abbrev pub begins : List ℕ → List ℕ → Bool
-begins [] line = true
-begins (letter ∷ word) [] = false
-begins (letter ∷ word) (first ∷ line) = if first =? letter then begins word line else false
-
 -- the five words; any other is none of them
 unfoldable pub word_of : List ℕ → Word
 word_of line =
-    if begins (ascii "inf") line then Inf else
-    if begins (ascii "acc") line then Acc else
-    if begins (ascii "cap") line then Cap else
-    if begins (ascii "sui") line then Sui else
-    if begins (ascii "end") line then End else Other
+    if starts_with nat_eq line (ascii "inf") then Inf else
+    if starts_with nat_eq line (ascii "acc") then Acc else
+    if starts_with nat_eq line (ascii "cap") then Cap else
+    if starts_with nat_eq line (ascii "sui") then Sui else
+    if starts_with nat_eq line (ascii "end") then End else Other
 
 -- "Refusals print `refused N`"
 abbrev pub refusing : ℕ → Said
