@@ -6,17 +6,17 @@ use mathlib.Core.Path.{◌≡◌, refl, sym, ◌∙◌, ap, subst}
 use native.Mathlib.Numerals.{add-one}
 use native.Mathlib.Omega.{arith}
 use borrow.Author.Tests.{ltb-true, ltb-false, lt-ltb, le-ltb, eqb-true}
-use borrow.Rule.Slice.PartMut.{mid_of, put_mid}
+use borrow.Rule.Slice.PartMut.{mid_of, put_mid, put_same}
 use lib.Dec.{eqb, ltb}
 use lib.ListN.{length, take, drop, set, get_or, length-append, length-take, length-drop, drop_of_length-le, take-append-drop}
 use lib.Seq.{take_all, drop-append_seam, drop-append-le, take-append_seam, drop-drop, drop-cons, set_at}
-use Rattle.std.specs.Prelude.{if◌then◌else◌}
+use Rattle.std.specs.Prelude.{Result, Ok, Err, Some, None, if◌then◌else◌}
+use Rattle.std.specs.Result.{result_ok}
 use Rattle.base.specs.Outcome.{accepted}
 use Rattle.base.specs.Written.{Writes}
 use Rattle.base.specs.declared.refusal.Refusal.{Refusal}
 use Rattle.base.specs.declared.refusal.Refusal.TheVariants.{NoRoom}
-use Rattle.base.specs.declared.written.Written.{Written}
-use Rattle.base.specs.declared.written.Written.TheVariants.{Length, Refused}
+use Rattle.base.proofs.Said.{said_one}
 use Rattle.base.proofs.written.Laws.{fitting as writing, lacking, placed}
 use Rattle.collector.specs.declared.Collector.{Collector}
 use Rattle.lines.specs.Lines.{line_length, newline, newline_from}
@@ -27,7 +27,6 @@ use Rattle.dump.proofs.Laws.{as_long, had_room, no_room}
 use Rattle.stream.specs.Steps.{Steps, Went}
 use Rattle.stream.specs.Stream.{Feeds, Replies, ended_lines, fitting}
 use Rattle.stream.specs.declared.Fed.{Fed}
-use Rattle.stream.specs.declared.Progress.{Progress}
 use Rattle.stream.proofs.Law.{answers_more, collector_more, first_ended, joined_more, none_ended}
 
 -- An answer and its newline.
@@ -43,63 +42,66 @@ one_behind c line = refl
 one_length : (c : Collector) (line : List ℕ) → length (answer_to c line) ≡ suc (length (answering c line).said.text)
 one_length c line = length-append (answering c line).said.text (newline ∷ []) ∙ omega arith
 
-as_one : {c left : Collector} {line d after : List ℕ} {r : Written} → Writes (accepted (answer_to c line)) r d after
+as_one : {c left : Collector} {line d after : List ℕ} {r : Result ℕ Refusal} → Writes (accepted (answer_to c line)) r d after
     → left ≡ (if ltb (length d) (length (answer_to c line)) then c else (answering c line).collector) → Replies c (line ∷ []) r d after left
 as_one {c} {left} {line} {d} w l = record { writes = rw (one c line) w; leaves = rw (one c line, one_behind c line) l }
 
 -- a buffer of no bytes
-pub replied_none : (c : Collector) (line d : List ℕ) → length d ≡ 0 → Replies c (line ∷ []) (Refused NoRoom) d d c
+pub replied_none : (c : Collector) (line d : List ℕ) → length d ≡ 0 → Replies c (line ∷ []) (Err NoRoom) d d c
 replied_none c line d e =
     let h : length d < length (answer_to c line) = omega (arith, one_length c line) in
     as_one (lacking (answer_to c line) d h) (rw (lt-ltb (length d) (length (answer_to c line)) h))
 
-module _ (c : Collector) (line d part : List ℕ) (left : Collector) (a : Answered) (h : 0 < length d) (w : Answers (answering c line) a (mid_of 0 (length d - 1 - 0) d) part c left) where
+module _ (c : Collector) (line d part : List ℕ) (left : Collector) (a : Answered) (h : 0 < length d) (w : Answers (answering c line) a (take (length d - 1) d) part c left) where
   abbrev text : List ℕ
   text = (answering c line).said.text
 
   abbrev room : List ℕ
-  room = mid_of 0 (length d - 1 - 0) d
+  room = take (length d - 1) d
+
+  abbrev end : List ℕ
+  end = drop (length d - 1) d
 
   room_length : length room ≡ length d - 1
-  room_length = omega (arith, length-take (length d - 1 - 0) d)
+  room_length = omega (arith, length-take (length d - 1) d)
 
-  pub replied_not : {x : Refusal} → a.written ≡ Refused x → Replies c (line ∷ []) (Refused NoRoom) d (put_mid 0 (length d - 1 - 0) d part) left
+  pub replied_not : {x : Refusal} → a.written ≡ Err x → Replies c (line ∷ []) (Err x) d (part ++ end) left
   replied_not {x} e =
-      let v : Writes (accepted text) (Refused x) room part = rw e at w.says.writes in
+      let v : Writes (accepted text) (Err x) room part = rw e at w.says.writes in
       let n = no_room v in
-      let k = ltb-true (length room) (length text) n in
+      let m = ltb-true (length room) (length text) n in
+      let k = lacking text room m in
       let l : length d < length (answer_to c line) = omega (arith, room_length, one_length c line) in
-      let p : part ≡ room = w.says.writes.leaves ∙ sym (lacking text room k).leaves in
-      let q : put_mid 0 (length d - 1 - 0) d part ≡ d = rw p (take-append-drop (length d - 1 - 0) d) in
+      let y = said_one (Err x) (Err NoRoom) (v.answers ∙ sym k.answers) in
+      let p : part ≡ room = v.leaves ∙ sym k.leaves in
+      let q : part ++ end ≡ d = rw p (take-append-drop (length d - 1) d) in
       let u : left ≡ c = w.leaves ∙ rw n in
-      as_one (rw q (lacking (answer_to c line) d l)) (rw (u, lt-ltb (length d) (length (answer_to c line)) l))
+      as_one (rw (q, y) (lacking (answer_to c line) d l)) (rw (u, lt-ltb (length d) (length (answer_to c line)) l))
 
-  module _ (n : ℕ) (e : a.written ≡ Length n) where
+  module _ (n : ℕ) (e : a.written ≡ Ok n) where
     fits : length text ≤ length room
     fits = ltb-false (length room) (length text) (had_room {n = n} (rw e at w.says.writes))
 
     as_many : n ≡ length text
     as_many = as_long w.says.writes fits n e
 
-    wider : put_mid 0 (length d - 1 - 0) d part ≡ text ++ drop (length text) d
+    wider : part ++ end ≡ text ++ drop (length text) d
     wider =
-        let p = placed w.says.writes fits in
-        let b = drop (length d - 1 - 0) d in
-        rw p (append_assoc text (drop (length text) room) b ∙ ap (λ (l : List ℕ). text ++ l) (sym (drop-append-le (length text) room b fits) ∙ ap (drop (length text)) (take-append-drop (length d - 1 - 0) d)))
+        rw (placed w.says.writes fits) (append_assoc text (drop (length text) room) end ∙ ap (λ (l : List ℕ). text ++ l) (sym (drop-append-le (length text) room end fits) ∙ ap (drop (length text)) (take-append-drop (length d - 1) d)))
 
-    pub replied_within : (n < length (put_mid 0 (length d - 1 - 0) d part)) × (n < length d)
+    pub replied_within : (n < length (part ++ end)) × (n < length d)
     replied_within =
         let l = ap length wider ∙ length-append text (drop (length text) d) in
         (omega (arith, l, as_many, fits, room_length, length-drop (length text) d), omega (arith, as_many, fits, room_length))
 
-    pub replied : Replies c (line ∷ []) (Length (n + 1)) d (set (put_mid 0 (length d - 1 - 0) d part) n newline) left
+    pub replied : Replies c (line ∷ []) (Ok (n + 1)) d (set (part ++ end) n newline) left
     replied =
         let o = one_length c line in
         let k : length (answer_to c line) ≤ length d = omega (arith, fits, room_length) in
         let m : n + 1 ≡ length (answer_to c line) = omega (arith, as_many) in
         let y : length text < length d = omega (arith, fits, room_length) in
         let p = wider ∙ ap (λ (l : List ℕ). text ++ l) (drop-cons d (length text) 0 y) in
-        let q : set (put_mid 0 (length d - 1 - 0) d part) n newline ≡ answer_to c line ++ drop (length (answer_to c line)) d =
+        let q : set (part ++ end) n newline ≡ answer_to c line ++ drop (length (answer_to c line)) d =
         rw (p, set_at text (get_or d (length text) 0) (drop (suc (length text)) d) newline n (sym as_many), o) (sym (append_assoc text (newline ∷ []) (drop (suc (length text)) d))) in
         let u : left ≡ (answering c line).collector = w.leaves ∙ rw (le-ltb (length room) (length text) fits) in
         as_one (rw (q, m) (writing (answer_to c line) d k)) (rw (u, le-ltb (length d) (length (answer_to c line)) k))
@@ -142,22 +144,21 @@ feeds_none : (c : Collector) (d : List ℕ) → Feeds c [] (record { taken = 0; 
 unfolding answers_from collector_from
 feeds_none c d = record { takes = refl; puts = refl; leaves = refl; collects = refl }
 
--- nothing fits: no line is ended, or its answer has no room
-stops : (c : Collector) (block d : List ℕ) → fitting (length d) c (ended_lines block) ≡ [] → Steps c block (record { taken = 0; put = 0; on = false }) d d c
-stops c block d e =
-    record {
-      went = record { lines = []; all = e; feeds = feeds_none c d; most = omega arith; room = omega arith };
-      some = λ o. let z : ◌≡◌ {A = ℕ} 0 1 = cc in absurd (omega arith);
-    }
+unlike : {A : Type 0} {a : A} → Some a ≡ None → ⊥
+unlike e = let z : ◌≡◌ {A = ℕ} 0 1 = cc in omega arith
+
+was_ok : (w : Result ℕ Refusal) {n : ℕ} → result_ok w ≡ Some n → w ≡ Ok n
+was_ok (Ok m) e = cc
+was_ok (Err x) e = absurd (unlike (sym e))
 
 module _ (c : Collector) (block d : List ℕ) (end : ℕ) (e : end ≡ newline_from block 0) where
-  pub step_none : end ≡ length block → Steps c block (record { taken = 0; put = 0; on = false }) d d c
+  pub step_none : end ≡ length block → Steps c block None d d c
   unfolding fitting
-  step_none l = stops c block d (rw (none_ended block (sym (newline_first block) ∙ sym e ∙ l)))
+  step_none l = (rw (none_ended block (sym (newline_first block) ∙ sym e ∙ l)), refl, refl)
 
   module _ (n : end ≡ length block → ⊥) where
     abbrev line : List ℕ
-    line = take (end - 0) block
+    line = take end block
 
     abbrev rest : List ℕ
     rest = drop (end + 1) block
@@ -166,32 +167,34 @@ module _ (c : Collector) (block d : List ℕ) (end : ℕ) (e : end ≡ newline_f
     ended =
         let k = newline_first block in
         let i = first_within block end e in
-        let z : end - 0 ≡ end = omega arith in
         let q : Cut block end = subst (Cut block) (sym (e ∙ k)) (cut block (omega (arith, n))) in
-        rw (z, add-one end) (ap ended_lines q.whole ∙ first_ended (take end block) (drop (suc end) block) q.line)
+        rw (add-one end) (ap ended_lines q.whole ∙ first_ended (take end block) (drop (suc end) block) q.line)
 
-    pub step_full : {w : Written} {x : Refusal} {after : List ℕ} {left : Collector} → Replies c (line ∷ []) w d after left → w ≡ Refused x → Steps c block (record { taken = 0; put = 0; on = false }) d after left
+    pub step_full : {w : Result ℕ Refusal} {after : List ℕ} {left : Collector} → Replies c (line ∷ []) w d after left → result_ok w ≡ None → Steps c block None d after left
     unfolding fitting
-    step_full {w} {x} {after} {left} r y =
-        let v : Writes (accepted (answer_to c line)) (Refused x) d after = rw (one c line, y) at r.writes in
-        let f = no_room v in
-        let p : after ≡ d = v.leaves ∙ sym (lacking (answer_to c line) d (ltb-true (length d) (length (answer_to c line)) f)).leaves in
-        let q : left ≡ c = r.leaves ∙ rw (one c line, f) in
-        rw (p, q) (stops c block d (rw (ended, f)))
+    step_full {w} {after} {left} r y = go w r y
+      where
+        go : (o : Result ℕ Refusal) → Replies c (line ∷ []) o d after left → result_ok o ≡ None → Steps c block None d after left
+        go (Ok n) r y = absurd (unlike y)
+        go (Err x) r y =
+            let v : Writes (accepted (answer_to c line)) (Err x) d after = rw (one c line) at r.writes in
+            let f = no_room v in
+            let p : after ≡ d = v.leaves ∙ sym (lacking (answer_to c line) d (ltb-true (length d) (length (answer_to c line)) f)).leaves in
+            let q : left ≡ c = r.leaves ∙ rw (one c line, f) in
+            (rw (ended, f), p, q)
 
-    pub step_some : {w : Written} {put : ℕ} {after : List ℕ} {left : Collector} → Replies c (line ∷ []) w d after left → w ≡ Length put → Steps c block (record { taken = end + 1; put = put; on = true }) d after left
+    pub step_some : {w : Result ℕ Refusal} {put : ℕ} {after : List ℕ} {left : Collector} → Replies c (line ∷ []) w d after left → result_ok w ≡ Some put → Steps c block (Some (record { taken = end + 1; put = put })) d after left
     unfolding fitting
     step_some {w} {put} {after} {left} r y =
-        let v : Writes (accepted (answer_to c line)) (Length put) d after = rw (one c line, y) at r.writes in
+        let v : Writes (accepted (answer_to c line)) (Ok put) d after = rw (one c line, was_ok w y) at r.writes in
         let f = had_room v in
         let l : length (answer_to c line) ≤ length d = ltb-false (length d) (length (answer_to c line)) f in
         let p = as_long v l put refl in
         let i = first_within block end e in
-        let k : length line ≡ end = length-take (end - 0) block ∙ omega arith in
+        let k : length line ≡ end = length-take end block ∙ omega arith in
         let j : length (joined (line ∷ [])) ≡ suc (length line) = length-append line (newline ∷ []) ∙ omega arith in
-        let b : left ≡ (answering c line).collector = r.leaves ∙ rw (one c line, one_behind c line, f) in
-        record {
-          went = record {
+        let b : left ≡ (answering c line).collector = r.leaves ∙ rw (one c line, one_behind c line, f) in (
+          record {
             lines = line ∷ [];
             all = rw (ended, f, p, b);
             feeds = record {
@@ -202,13 +205,13 @@ module _ (c : Collector) (block d : List ℕ) (end : ℕ) (e : end ≡ newline_f
             };
             most = omega (arith, n);
             room = omega arith;
-          };
-          some = λ o. omega arith;
-        }
+          },
+          omega arith,
+        )
 
 -- Lines of a block.
 
-pub went_none : (c : Collector) (block d : List ℕ) → Went c block (record { taken = 0; put = 0; on = true }) d d c
+pub went_none : (c : Collector) (block d : List ℕ) → Went c block (record { taken = 0; put = 0 }) d d c
 went_none c block d = let z : length d - 0 ≡ length d = omega arith in record { lines = []; all = rw z; feeds = feeds_none c d; most = omega arith; room = omega arith }
 
 -- what a step is lent: the rest of the block, and the room behind what was put
@@ -243,50 +246,48 @@ module _ {c left : Collector} {lines : List (List ℕ)} {r : Fed} {d mid : List 
         collects = g.collects ∙ rw f.collects (sym (collector_more c lines more));
       }
 
-pub went_on : {c left last : Collector} {block d mid part : List ℕ} {t s : Progress} → Went c block t d mid left → t.on ≡ true
+-- the room behind what was put
+room_left : {c left : Collector} {block d mid : List ℕ} {t : Fed} → Went c block t d mid left → length (mid_of t.put (length mid - t.put) mid) ≡ length d - t.put
+room_left {c} {d = d} {t = t} p = ap length (feeds_room p.feeds p.room) ∙ omega (arith, length-drop (length (answers_from c p.lines)) d, p.feeds.puts)
+
+pub went_on : {c left last : Collector} {block d mid part : List ℕ} {t s : Fed} → Went c block t d mid left
     → Went left (take (length block - t.taken) (drop t.taken block)) s (mid_of t.put (length mid - t.put) mid) part last
-    → Went c block (record { taken = t.taken + s.taken; put = t.put + s.put; on = s.on }) d (put_mid t.put (length mid - t.put) mid part) last
-went_on {c} {left} {last} {block} {d} {mid} {part} {t} {s} p o q =
+    → Went c block (record { taken = t.taken + s.taken; put = t.put + s.put }) d (put_mid t.put (length mid - t.put) mid part) last
+went_on {c} {left} {last} {block} {d} {mid} {part} {t} {s} p q =
     let f = p.feeds in
-    let m : length (mid_of t.put (length mid - t.put) mid) ≡ length d - t.put = ap length (feeds_room f p.room) ∙ omega (arith, length-drop (length (answers_from c p.lines)) d, f.puts) in
+    let m = room_left p in
     let b = part_rest t.taken block in
     let l = length-drop t.taken block in
     let z : length d - t.put - s.put ≡ length d - (t.put + s.put) = omega arith in
-    let a : fitting (length d) c (ended_lines block) ≡ p.lines ++ fitting (length d - t.put) left (ended_lines (drop t.taken block)) = rw o at p.all in
     let k = rw (m, b, z, drop-drop s.taken t.taken block) at q.all in
     record {
       lines = p.lines ++ q.lines;
-      all = a ∙ ap (λ (x : List (List ℕ)). p.lines ++ x) k ∙ sym (append_assoc p.lines q.lines (if s.on then fitting (length d - (t.put + s.put)) last (ended_lines (drop (t.taken + s.taken) block)) else []));
+      all = p.all ∙ ap (λ (x : List (List ℕ)). p.lines ++ x) k ∙ sym (append_assoc p.lines q.lines (fitting (length d - (t.put + s.put)) last (ended_lines (drop (t.taken + s.taken) block))));
       feeds = feeds_more f p.room q.feeds;
       most = let y = rw b at q.most in omega (arith, p.most);
       room = omega (arith, p.room, q.room);
     }
 
-pub went_far : {c left : Collector} {block d after : List ℕ} {t : Progress} → Went c block t d after left → t.on ≡ false
-    → Feeds c (fitting (length d) c (ended_lines block)) (record { taken = t.taken; put = t.put }) d after left
-went_far {c} {left} {block} {d} {after} {t} w o =
-    let a : fitting (length d) c (ended_lines block) ≡ w.lines ++ [] = rw o at w.all in
-    subst (λ (x : List (List ℕ)). Feeds c x (record { taken = t.taken; put = t.put }) d after left) (sym (a ∙ append-nil w.lines)) w.feeds
+-- where nothing fits of the rest, what fits was answered
+pub went_far : {c left last : Collector} {block d mid part : List ℕ} {t : Fed} → Went c block t d mid left
+    → Steps left (take (length block - t.taken) (drop t.taken block)) None (mid_of t.put (length mid - t.put) mid) part last
+    → Feeds c (fitting (length d) c (ended_lines block)) t d (put_mid t.put (length mid - t.put) mid part) last
+went_far {c} {left} {block = block} {d} {mid} {t = t} w s =
+    let n = rw (room_left w, part_rest t.taken block) at s.0 in
+    let a : fitting (length d) c (ended_lines block) ≡ w.lines = w.all ∙ rw n (append-nil w.lines) in
+    rw (a, s.1, s.2, put_same t.put (length mid - t.put) mid) w.feeds
 
 -- what the loop asks
-pub went_within : {c left : Collector} {block d after : List ℕ} {t : Progress} → Went c block t d after left → (t.put ≤ length after) × (length after ≡ length d)
+pub went_within : {c left : Collector} {block d after : List ℕ} {t : Fed} → Went c block t d after left → (t.put ≤ length after) × (length after ≡ length d)
 went_within w = let l = feeds_length w.feeds w.room in (omega (arith, w.room), l)
-
--- a step takes something, or is the last
-pub went_less : (n at taken : ℕ) (was on : Bool) → was ≡ true → (on ≡ true → 0 < taken) → at + taken ≤ n → (n - (at + taken)) + (if on then 1 else 0) < (n - at) + (if was then 1 else 0)
-went_less n at taken was on e f h = rw e (go on f)
-  where
-    go : (on : Bool) → (on ≡ true → 0 < taken) → (n - (at + taken)) + (if on then 1 else 0) < (n - at) + 1
-    go true f = let k = f refl in omega arith
-    go false f = omega arith
 
 -- The last line.
 
-pub finish_none : (c : Collector) (rest d : List ℕ) → length rest ≡ 0 → Replies c (last_line rest) (Length 0) d d c
+pub finish_none : (c : Collector) (rest d : List ℕ) → length rest ≡ 0 → Replies c (last_line rest) (Ok 0) d d c
 unfolding answers_from collector_from
 finish_none c [] d e = let l : 0 ≤ length d = omega arith in record { writes = writing [] d l; leaves = rw (le-ltb (length d) 0 l) }
 finish_none c (x ∷ rest) d e = absurd (omega arith)
 
-pub finish_some : {c left : Collector} {d after : List ℕ} {r : Written} (last : List ℕ) → (length last ≡ 0 → ⊥) → Replies c (last ∷ []) r d after left → Replies c (last_line last) r d after left
+pub finish_some : {c left : Collector} {d after : List ℕ} {r : Result ℕ Refusal} (last : List ℕ) → (length last ≡ 0 → ⊥) → Replies c (last ∷ []) r d after left → Replies c (last_line last) r d after left
 finish_some [] n w = absurd (n refl)
 finish_some (x ∷ last) n w = w

@@ -2,8 +2,9 @@
 use mathlib.Core.Path.{◌≡◌, ap}
 use mathlib.Core.List.{List}
 use Prim.Native.Nat.{ℕ}
-use Rattle.base.specs.declared.written.Written.{Written}
-use Rattle.base.proofs.Said.{written_one}
+use Rattle.std.specs.Prelude.{Result}
+use Rattle.base.specs.declared.refusal.Refusal.{Refusal}
+use Rattle.base.proofs.Said.{said_one}
 use Rattle.base.proofs.Unique.{Unique, both}
 use Rattle.collector.specs.declared.Collector.{Collector}
 use Rattle.stream.specs.Stream.{Feeds, Replies}
@@ -20,17 +21,17 @@ fed make {r = r} {r' = r'} q q' =
     made : {t t' p p' : ℕ} → t ≡ t' → p ≡ p' → ◌≡◌ {A = Fed} (record { taken = t; put = p }) (record { taken = t'; put = p' })
     made e f = rw (e, f)
 
-replied : {X : Type 0} (make : Written → List ℕ → Collector → X) {c left left' : Collector} {lines : List (List ℕ)} {r r' : Written} {before after after' : List ℕ}
+replied : {X : Type 0} (make : Result ℕ Refusal → List ℕ → Collector → X) {c left left' : Collector} {lines : List (List ℕ)} {r r' : Result ℕ Refusal} {before after after' : List ℕ}
     → Replies c lines r before after left → Replies c lines r' before after' left' → make r after left ≡ make r' after' left'
 replied make {r = r} {r' = r'} q q' =
-    let e = written_one r r' (both q.writes.answers q'.writes.answers) in
+    let e = said_one r r' (both q.writes.answers q'.writes.answers) in
     rw (e, both q.writes.leaves q'.writes.leaves, both q.leaves q'.leaves)
 
 pub begin_unique : Unique p.begin.Kinds.ps p.begin.Kinds.r p.begin.Reads.Asked p.begin.Reads.Learnt
-begin_unique κs a ok z z' w w' q q' = (written_one z z' (both q.answers q'.answers), ap (λ (x : List ℕ). (x, tt)) (both q.leaves q'.leaves))
+begin_unique κs a ok z z' w w' q q' = (said_one z z' (both q.answers q'.answers), ap (λ (x : List ℕ). (x, tt)) (both q.leaves q'.leaves))
 
 pub feed_unique : Unique p.feed.Kinds.ps p.feed.Kinds.r p.feed.Reads.Asked p.feed.Reads.Learnt
-feed_unique κs a ok z z' w w' q q' = (fed (λ r after left. r) q q', fed (λ r after left. (left.bytes, (left.marks, (left.known, (tt, (after, tt)))))) q q')
+feed_unique κs a ok z z' w w' q q' = (fed (λ r after left. r) q q', fed (λ r after left. (left, (tt, (after, tt)))) q q')
 
 pub finish_unique : Unique p.finish.Kinds.ps p.finish.Kinds.r p.finish.Reads.Asked p.finish.Reads.Learnt
-finish_unique κs a ok z z' w w' q q' = (replied (λ r after left. r) q q', replied (λ r after left. (left.bytes, (left.marks, (left.known, (tt, (after, tt)))))) q q')
+finish_unique κs a ok z z' w w' q q' = (replied (λ r after left. r) q q', replied (λ r after left. (left, (tt, (after, tt)))) q q')

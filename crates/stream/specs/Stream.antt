@@ -1,9 +1,9 @@
 -- chandump between reading and writing: what is answered of a block of the input, and what is left of it. Document 01, "chandump".
-use Rattle.std.specs.Prelude.{ℕ, suc, ◌-◌, List, [], ◌∷◌, ◌++◌, ◌≡◌, length, take, drop, if◌then◌else◌}
+use Rattle.std.specs.Prelude.{ℕ, suc, ◌-◌, Result, List, [], ◌∷◌, ◌++◌, ◌≡◌, length, take, drop, if◌then◌else◌}
 use Rattle.base.specs.Choice.{◌<?◌, ◌=?◌}
 use Rattle.base.specs.Outcome.{accepted}
 use Rattle.base.specs.Written.{Writes}
-use Rattle.base.specs.declared.written.Written.{Written}
+use Rattle.base.specs.declared.refusal.Refusal.{Refusal}
 use Rattle.collector.specs.Stored.{fresh_stored}
 use Rattle.collector.specs.declared.Collector.{Collector}
 use Rattle.lines.specs.Lines.{newline}
@@ -35,7 +35,7 @@ pub record Feeds (c : Collector) (lines : List (List ℕ)) (r : Fed) (before aft
   pub collects : left ≡ collector_from c lines
 
 -- The promise of what writes the answers to some lines or none; 11 where they have no room, and then nothing changes.
-pub record Replies (c : Collector) (lines : List (List ℕ)) (r : Written) (before after : List ℕ) (left : Collector) : Type 0 where
+pub record Replies (c : Collector) (lines : List (List ℕ)) (r : Result ℕ Refusal) (before after : List ℕ) (left : Collector) : Type 0 where
   pub writes : Writes (accepted (answers_from c lines)) r before after
   pub leaves : left ≡ (if length before <? length (answers_from c lines) then c else collector_from c lines)
 

@@ -4,13 +4,12 @@
 ghost use Rattle.std.specs.Prelude.{[], ◌∷◌, length};
 ghost use Rattle.base.specs.Outcome.{accepted};
 ghost use Rattle.base.specs.Written.{Writes};
-ghost use Rattle.collector.specs.Stored.{collector_of};
 ghost use Rattle.dump.specs.Input.{heading, last_line};
 ghost use Rattle.stream.specs.Steps.{Steps};
 ghost use Rattle.stream.specs.Stream.{Feeds, Replies, ended_lines, fitting};
 
 use base::refusal::Refusal;
-use base::written::{Written, place};
+use base::written::place;
 use collector::Collector;
 use dump::{LONGEST, dump};
 use lines::newline_from;
@@ -26,120 +25,61 @@ pub struct Fed {
     pub put: usize,
 }
 
-// The same, and whether there may be more to answer.
-#[derive(Drop)]
-struct Progress {
-    taken: usize,
-    put: usize,
-    on: bool,
-}
-
 // The heading, before anything is read.
-pub fn begin(out: &mut [u8]) -> Written
+pub fn begin(out: &mut [u8]) -> Result<usize, Refusal>
     ensures { Writes (accepted heading) result out.old out.new }
 {
     place(b"chandump 1\n", out)
 }
 
 // The answer to a line, and a newline behind it.
-fn reply(
-    bytes: &mut [u8; Collector::CAPACITY],
-    marks: &mut [u8; Collector::PARTS],
-    known: &mut [u8; Collector::KNOWN],
-    line: &[u8],
-    out: &mut [u8],
-) -> Written
-    ensures { Replies (collector_of bytes.old marks.old known.old) (line.now ∷ []) result out.old out.new (collector_of bytes.new marks.new known.new) }
+fn reply(collector: &mut Collector, line: &[u8], out: &mut [u8]) -> Result<usize, Refusal>
+    ensures { Replies collector.old (line.now ∷ []) result out.old out.new collector.new }
 {
-    if out.len() == 0 {
-        return Written::Refused(Refusal::NoRoom);
+    if out.is_empty() {
+        return Err(Refusal::NoRoom);
     }
     let room = out.len() - 1;
-    let answer = dump(bytes, marks, known, line, &mut out[0..room]);
-    let written = answer.written;
-    let Written::Length(n) = written else {
-        return Written::Refused(Refusal::NoRoom);
-    };
+    let answer = dump(collector, line, &mut out[..room]);
+    let n = answer.written?;
     out[n] = b'\n';
-    Written::Length(n + 1)
+    Ok(n + 1)
 }
 
 // The first line of a block, where it is ended there and its answer has room.
-fn step(
-    bytes: &mut [u8; Collector::CAPACITY],
-    marks: &mut [u8; Collector::PARTS],
-    known: &mut [u8; Collector::KNOWN],
-    block: &[u8],
-    out: &mut [u8],
-) -> Progress
-    ensures { Steps (collector_of bytes.old marks.old known.old) block.now result out.old out.new (collector_of bytes.new marks.new known.new) }
+fn step(collector: &mut Collector, block: &[u8], out: &mut [u8]) -> Option<Fed>
+    ensures { Steps collector.old block.now result out.old out.new collector.new }
 {
     let end = newline_from(block, 0);
     if end == block.len() {
-        return Progress {
-            taken: 0,
-            put: 0,
-            on: false,
-        };
+        return None;
     }
-    let Written::Length(n) = reply(bytes, marks, known, &block[0..end], out) else {
-        return Progress {
-            taken: 0,
-            put: 0,
-            on: false,
-        };
-    };
-    Progress {
+    let put = reply(collector, &block[..end], out).ok()?;
+    Some(Fed {
         taken: end + 1,
-        put: n,
-        on: true,
-    }
+        put,
+    })
 }
 
 // The lines of a block that are ended there are answered where they lie, one after the other, as long as the answers
 // have room.
-pub fn feed(
-    bytes: &mut [u8; Collector::CAPACITY],
-    marks: &mut [u8; Collector::PARTS],
-    known: &mut [u8; Collector::KNOWN],
-    block: &[u8],
-    out: &mut [u8],
-) -> Fed
-    ensures { Feeds (collector_of bytes.old marks.old known.old) (fitting (length out.old) (collector_of bytes.old marks.old known.old) (ended_lines block.now)) result out.old out.new (collector_of bytes.new marks.new known.new) }
+pub fn feed(collector: &mut Collector, block: &[u8], out: &mut [u8]) -> Fed
+    ensures { Feeds collector.old (fitting (length out.old) collector.old (ended_lines block.now)) result out.old out.new collector.new }
 {
-    let mut t = Progress {
-        taken: 0,
-        put: 0,
-        on: true,
-    };
-    while t.on {
-        let at = t.taken;
-        let put = t.put;
-        let s = step(bytes, marks, known, &block[at..], &mut out[put..]);
-        t = Progress {
-            taken: at + s.taken,
-            put: put + s.put,
-            on: s.on,
-        };
+    let mut fed = Fed { taken: 0, put: 0 };
+    while let Some(next) = step(collector, &block[fed.taken..], &mut out[fed.put..]) {
+        fed.taken += next.taken;
+        fed.put += next.put;
     }
-    Fed {
-        taken: t.taken,
-        put: t.put,
-    }
+    fed
 }
 
 // What is left of the input at its end: a last line, which needs no newline, or nothing.
-pub fn finish(
-    bytes: &mut [u8; Collector::CAPACITY],
-    marks: &mut [u8; Collector::PARTS],
-    known: &mut [u8; Collector::KNOWN],
-    rest: &[u8],
-    out: &mut [u8],
-) -> Written
-    ensures { Replies (collector_of bytes.old marks.old known.old) (last_line rest.now) result out.old out.new (collector_of bytes.new marks.new known.new) }
+pub fn finish(collector: &mut Collector, rest: &[u8], out: &mut [u8]) -> Result<usize, Refusal>
+    ensures { Replies collector.old (last_line rest.now) result out.old out.new collector.new }
 {
-    if rest.len() == 0 {
-        return Written::Length(0);
+    if rest.is_empty() {
+        return Ok(0);
     }
-    reply(bytes, marks, known, rest, out)
+    reply(collector, rest, out)
 }
