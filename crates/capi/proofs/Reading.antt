@@ -3,13 +3,12 @@ use mathlib.Core.Logic.{◌↔◌}
 use mathlib.Core.Path.{◌≡◌, refl, sym, ◌∙◌, ap}
 use mathlib.Core.Bool.{Bool, true, false, not}
 use mathlib.Core.List.{List, [], ◌∷◌}
-use mathlib.Core.Option.{Option, none, some}
 use Prim.Native.Nat.{ℕ, ◌+◌, ◌*◌, ◌/◌, ◌^◌, ◌≤◌, ◌<◌}
 use native.Mathlib.Omega.{arith}
 use borrow.Author.Tests.{eq-eqb, ne_eqb, le-ltb, ltb-false}
 use lib.Dec.{ltb, lit<}
 use lib.ListN.{length}
-use Rattle.std.specs.Prelude.{if◌then◌else◌}
+use Rattle.std.specs.Prelude.{if◌then◌else◌, Option, None, Some}
 use Rattle.base.specs.Field.{byte}
 use Rattle.base.specs.Outcome.{Outcome, accepted, refused, ◌>>=◌}
 use Rattle.base.specs.Refusal.{refusal, row}
@@ -18,7 +17,9 @@ use Rattle.base.specs.declared.refusal.Refusal.{Refusal}
 use Rattle.base.specs.declared.refusal.Refusal.TheVariants.{NotEnoughData, TooMuchData, InvalidZeroSession, InvalidAuthType, InvalidPrivilegeLevel, NoChannel, BadIndex, LongName, NoForm, NotARequest, NoRoom, Disagrees, Incomplete, BadLine, WrongChannel, BadRecord}
 use Rattle.base.proofs.Outcome.{apart}
 use Rattle.base.proofs.refusal.Laws.{named, named_row}
-use Rattle.collector.specs.Collector.{Standing, complete, missing, is_complete, least_to, lowest}
+use Rattle.collector.specs.Collector.{is_complete, least_to, lowest}
+use Rattle.collector.specs.declared.Status.{Status}
+use Rattle.collector.specs.declared.Status.TheVariants.{Complete, Missing}
 use Rattle.collector.specs.Stored.{parts_of, standing_stored, well_stored}
 use Rattle.collector.specs.declared.Collector.{Collector}
 use Rattle.collector.proofs.Complete.{lowest_le}
@@ -29,7 +30,7 @@ use Rattle.capi.specs.Number.{at_most, carried_in, carried_limit, code, code_any
 unlike : false ≡ true → ⊥
 unlike e = let z : ◌≡◌ {A = ℕ} 0 1 = cc in omega arith
 
-some_not : {A : Type 0} {a : A} → accepted (some a) ≡ accepted none → ⊥
+some_not : {A : Type 0} {a : A} → accepted (Some a) ≡ accepted None → ⊥
 some_not e = let z : ◌≡◌ {A = ℕ} 0 1 = cc in omega arith
 
 -- A count, a length, the number of what there is: below 2^61 it is no refusal, not GHJ_NONE, and no status that is not complete.
@@ -110,30 +111,30 @@ pub code_one : (x y : Outcome ℕ) → Codable x → Codable y → code x ≡ co
 code_one x y p q e = sym (outcome_read x p) ∙ ap outcome_in e ∙ outcome_read y q
 
 -- Where there may be none: GHJ_NONE is given exactly then.
-pub none_read : {A : Type 0} (number : A → ℕ) (x : Outcome (Option A)) → ((a : A) → x ≡ accepted (some a) → number a < 2 ^ 62) → is_none (code (or_none number x)) ≡ true ↔ x ≡ accepted none
-none_read number (accepted none) h = (λ e. refl, λ e. refl)
-none_read number (accepted (some a)) h = (λ e. absurd (unlike (sym (count_some (number a) (h a refl)) ∙ e)), λ e. absurd (some_not e))
+pub none_read : {A : Type 0} (number : A → ℕ) (x : Outcome (Option A)) → ((a : A) → x ≡ accepted (Some a) → number a < 2 ^ 62) → is_none (code (or_none number x)) ≡ true ↔ x ≡ accepted None
+none_read number (accepted None) h = (λ e. refl, λ e. refl)
+none_read number (accepted (Some a)) h = (λ e. absurd (unlike (sym (count_some (number a) (h a refl)) ∙ e)), λ e. absurd (some_not e))
 none_read number (refused n v) h = (λ e. absurd (unlike (sym (refused_some n v) ∙ e)), λ e. absurd (apart e))
 
 -- The same where a message is written, or none: no buffer is so long that a message's length is GHJ_NONE.
-pub none_written : (message : Outcome (Option (List ℕ))) (buffer : List ℕ) → length buffer < 2 ^ 62 → is_none (code_any message buffer) ≡ true ↔ message ≡ accepted none
+pub none_written : (message : Outcome (Option (List ℕ))) (buffer : List ℕ) → length buffer < 2 ^ 62 → is_none (code_any message buffer) ≡ true ↔ message ≡ accepted None
 unfolding written length_of
-none_written (accepted none) buffer h = (λ e. refl, λ e. refl)
+none_written (accepted None) buffer h = (λ e. refl, λ e. refl)
 none_written (refused n v) buffer h = (λ e. absurd (unlike (sym (refused_some n v) ∙ e)), λ e. absurd (apart e))
-none_written (accepted (some bytes)) buffer h = (λ e. absurd (unlike (sym (go (ltb (length buffer) (length bytes)) refl) ∙ e)), λ e. absurd (some_not e))
+none_written (accepted (Some bytes)) buffer h = (λ e. absurd (unlike (sym (go (ltb (length buffer) (length bytes)) refl) ∙ e)), λ e. absurd (some_not e))
   where
     go : (x : Bool) → ltb (length buffer) (length bytes) ≡ x → is_none (code ((if x then refused 11 [] else accepted bytes) >>= λ b. accepted (length b))) ≡ false
     go true p = refused_some 11 []
     go false p = count_some (length bytes) (omega (arith, ltb-false (length buffer) (length bytes) p))
 
 -- What a caller makes of a collector's status,
-abbrev pub standing_in : ℕ → Outcome Standing
-standing_in number = if is_refused number then refused (refusal_in number) [] else accepted (if is_missing number then missing (missing_in number) else complete number)
+abbrev pub standing_in : ℕ → Outcome Status
+standing_in number = if is_refused number then refused (refusal_in number) [] else accepted (if is_missing number then Missing (missing_in number) else Complete number)
 
-complete_back : (n : ℕ) → n ≤ 1024 → standing_in (code (standing (accepted (complete n)))) ≡ accepted (complete n)
+complete_back : (n : ℕ) → n ≤ 1024 → standing_in (code (standing (accepted (Complete n)))) ≡ accepted (Complete n)
 complete_back n h = simp (count_plain n (omega arith), count_complete n (omega arith))
 
-missing_back : (i : ℕ) → i ≤ 64 → standing_in (code (standing (accepted (missing i)))) ≡ accepted (missing i)
+missing_back : (i : ℕ) → i ≤ 64 → standing_in (code (standing (accepted (Missing i)))) ≡ accepted (Missing i)
 missing_back i h =
     let a : is_refused (missing_bit + i) ≡ false = count_plain (missing_bit + i) (omega arith) in
     let b : is_missing (missing_bit + i) ≡ true = eq-eqb ((missing_bit + i) / 2 ^ 61) 1 (omega arith) in
@@ -144,7 +145,7 @@ missing_back i h =
 pub status_read : (c : Collector) → standing_in (code (standing (standing_stored c))) ≡ standing_stored c
 status_read c = go (well_stored c) (is_complete (parts_of c)) refl refl
   where
-    at : {x y : Outcome Standing} → x ≡ y → standing_in (code (standing y)) ≡ y → standing_in (code (standing x)) ≡ x
+    at : {x y : Outcome Status} → x ≡ y → standing_in (code (standing y)) ≡ y → standing_in (code (standing x)) ≡ x
     at e f = rw e f
 
     go : (w x : Bool) → well_stored c ≡ w → is_complete (parts_of c) ≡ x → standing_in (code (standing (standing_stored c))) ≡ standing_stored c

@@ -1,7 +1,7 @@
 -- Any two outcomes that a C function's promise allows at the same arguments coincide.
 use mathlib.Core.List.{List}
 use mathlib.Core.Path.{◌≡◌, refl, ◌∙◌, ap}
-use mathlib.Core.Option.{Option}
+use Rattle.std.specs.Prelude.{Option}
 use Prim.Native.Nat.{ℕ}
 use Rattle.base.proofs.Unique.{Unique, both, last}
 use Rattle.base.specs.Outcome.{Outcome}

@@ -1,12 +1,12 @@
 -- The number that a C function returns, and what C reads from it.
-use Rattle.std.specs.Prelude.{ℕ, ◌+◌, ◌-◌, ◌*◌, ◌/◌, ◌%◌, ◌^◌, Bool, not, ◌≡◌, List, if◌then◌else◌}
-use Rattle.std.proofs.Math.Option.{Option, none, some}
+use Rattle.std.specs.Prelude.{ℕ, ◌+◌, ◌-◌, ◌*◌, ◌/◌, ◌%◌, ◌^◌, Bool, not, ◌≡◌, List, if◌then◌else◌, Option, Some, None}
 use Rattle.base.specs.Choice.{◌<?◌, ◌=?◌}
 use Rattle.base.specs.Field.{byte}
 use Rattle.base.specs.Outcome.{Outcome, accepted, refused}
 use Rattle.base.specs.Verdict.{record_of}
 use Rattle.base.specs.Written.{length_of, over, written}
-use Rattle.collector.specs.Collector.{Standing, complete, missing}
+use Rattle.collector.specs.declared.Status.{Status}
+use Rattle.collector.specs.declared.Status.TheVariants.{Complete, Missing}
 
 -- Three numbers that no count and no length is: no slice is as long.
 
@@ -42,15 +42,15 @@ plain (accepted a) = accepted 0
 plain (refused number carried) = refused number carried
 
 -- where a collector stands: its list's length, or the bit and the lowest unheard index
-abbrev pub standing : Outcome Standing → Outcome ℕ
-standing (accepted (complete n)) = accepted n
-standing (accepted (missing i)) = accepted (missing_bit + i)
+abbrev pub standing : Outcome Status → Outcome ℕ
+standing (accepted (Complete n)) = accepted n
+standing (accepted (Missing i)) = accepted (missing_bit + i)
 standing (refused number carried) = refused number carried
 
 -- "answers none, which counts as accepted": the number of what there is, or the bit
 abbrev pub or_none : {A : Type 0} → (A → ℕ) → Outcome (Option A) → Outcome ℕ
-or_none number (accepted (some a)) = accepted (number a)
-or_none number (accepted none) = accepted none_bit
+or_none number (accepted (Some a)) = accepted (number a)
+or_none number (accepted None) = accepted none_bit
 or_none number (refused n carried) = refused n carried
 
 -- The promise of a C function by which a collector takes an answer: its number, and the collector before and after.
@@ -67,14 +67,14 @@ pub record Codes (message : Outcome (List ℕ)) (number : ℕ) (before after : L
 
 -- its number
 abbrev pub code_any : Outcome (Option (List ℕ)) → List ℕ → ℕ
-code_any (accepted (some bytes)) buffer = code (length_of (written (accepted bytes) buffer))
-code_any (accepted none) buffer = none_bit
+code_any (accepted (Some bytes)) buffer = code (length_of (written (accepted bytes) buffer))
+code_any (accepted None) buffer = none_bit
 code_any (refused number carried) buffer = code (refused number carried)
 
 -- the buffer: none, like a refusal, leaves it as it was
 abbrev pub over_any : List ℕ → Outcome (Option (List ℕ)) → List ℕ
-over_any buffer (accepted (some bytes)) = over buffer (written (accepted bytes) buffer)
-over_any buffer (accepted none) = buffer
+over_any buffer (accepted (Some bytes)) = over buffer (written (accepted bytes) buffer)
+over_any buffer (accepted None) = buffer
 over_any buffer (refused number carried) = buffer
 
 -- The promise of one that writes a message or answers none.

@@ -1,11 +1,10 @@
 -- What C asks with the number of an authentication type or a privilege level. Document 01: a number "that names nothing answers none, which counts as accepted".
-use Rattle.std.specs.Prelude.{ℕ, List}
-use Rattle.std.proofs.Math.Option.{Option, none, some}
+use Rattle.std.specs.Prelude.{ℕ, List, Option, Some, None}
+use Rattle.std.specs.declared.cmp.Ordering.{Ordering}
+use Rattle.std.specs.declared.cmp.Ordering.TheVariants.{Less, Equal, Greater}
 use Rattle.auth.specs.Auth.{auth_type_name, auth_types, privileges, strength}
 use Rattle.auth.specs.GetChannelAuthenticationCapabilities as capabilities
 use Rattle.auth.specs.declared.AuthType.{AuthType}
-use Rattle.auth.specs.declared.Ordering.{Ordering}
-use Rattle.auth.specs.declared.Ordering.TheVariants.{Less, Equal, Greater}
 use Rattle.auth.specs.declared.PrivilegeLevel.{PrivilegeLevel}
 use Rattle.base.specs.Connection.{channel_of}
 use Rattle.base.specs.Named.{named}
@@ -16,13 +15,13 @@ use Rattle.activation.specs.ActivateSession as activation
 infixl 20 ◌>>=◌
 -- arguments in their order: the first that is refused or names nothing decides
 abbrev pub ◌>>=◌ : {A B : Type 0} → Outcome (Option A) → (A → Outcome (Option B)) → Outcome (Option B)
-accepted (some a) >>= next = next a
-accepted none >>= next = accepted none
+accepted (Some a) >>= next = next a
+accepted None >>= next = accepted None
 refused number carried >>= next = refused number carried
 
 -- an outcome that is not none
 abbrev pub sure : {A : Type 0} → Outcome A → Outcome (Option A)
-sure (accepted a) = accepted (some a)
+sure (accepted a) = accepted (Some a)
 sure (refused number carried) = refused number carried
 
 -- the whole number counts

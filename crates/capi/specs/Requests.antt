@@ -1,6 +1,5 @@
 -- The requests of a channel's number that C functions write. Those that take the number of a type or a level stand in Numbered.antt.
-use Rattle.std.specs.Prelude.{ℕ, List, [], ◌∷◌}
-use Rattle.std.proofs.Math.Option.{Option, none, some}
+use Rattle.std.specs.Prelude.{ℕ, List, [], ◌∷◌, Option, Some, None}
 use Rattle.base.specs.Connection.{channel_of}
 use Rattle.base.specs.Named.{named, required}
 use Rattle.base.specs.Outcome.{Outcome, ◌>>=◌}
@@ -13,7 +12,7 @@ use Rattle.suites.specs.GetChannelCipherSuites as suites
 
 -- from 0 up: which settings
 abbrev pub kinds : List (Option ChannelAccessType)
-kinds = none ∷ some NonVolatile ∷ some Volatile ∷ []
+kinds = None ∷ Some NonVolatile ∷ Some Volatile ∷ []
 
 -- 1 non-volatile, 2 volatile; 9 for any other
 abbrev pub kind_of : ℕ → Outcome ChannelAccessType

@@ -1,6 +1,5 @@
 -- Cipher suite records with their tags, from C: document 02, C-14. include/ghjalvestru.h has the layout of a record that was read.
-use Rattle.std.specs.Prelude.{ℕ, List, [], ◌∷◌, ◌++◌, if◌then◌else◌}
-use Rattle.std.proofs.Math.Option.{Option, none, some}
+use Rattle.std.specs.Prelude.{ℕ, List, [], ◌∷◌, ◌++◌, if◌then◌else◌, Option, Some, None}
 use Rattle.base.specs.Choice.{◌=?◌}
 use Rattle.base.specs.Little.{little_bytes}
 use Rattle.base.specs.Outcome.{Outcome, accepted, refused, ◌>>=◌}
@@ -15,8 +14,8 @@ record_bytes r = (entry r ++ (r.authentication ∷ 0 ∷ 0 ∷ [])) ++ (little_b
 
 -- at the end there is nothing
 abbrev pub step_bytes : Option TaggedRecord → List ℕ
-step_bytes (some r) = record_bytes r
-step_bytes none = []
+step_bytes (Some r) = record_bytes r
+step_bytes None = []
 
 -- a step of the reading
 abbrev pub step_record : List ℕ → ℕ → Outcome (List ℕ)

@@ -4,10 +4,7 @@ ghost use Rattle.by_suite.specs.ChannelCollector.{from_for, lent_as, list_from, 
 ghost use Rattle.capi.specs.Number.{Codes, Takes, code, standing};
 
 use crate::number::{code, refused, status_code, verdict_code};
-use base::refusal::Refusal;
-use by_suite::channel_collector::{
-    FromAnswer, answer_from, fresh_from, list_from, status_from, suites_from,
-};
+use by_suite::channel_collector::{answer_from, fresh_from, list_from, status_from, suites_from};
 use collector::Collector;
 
 // The byte of a fresh one; its arrays are zeros.
@@ -15,8 +12,8 @@ pub fn ghj_channel_collector_from(channel: u8) -> u64
     ensures { result ≡ code (from_for channel) }
 {
     match fresh_from(channel) {
-        FromAnswer::From(from) => from as u64,
-        FromAnswer::NoChannel => refused(Refusal::NoChannel),
+        Ok(from) => from as u64,
+        Err(refusal) => refused(refusal),
     }
 }
 

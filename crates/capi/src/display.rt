@@ -8,18 +8,17 @@ ghost use Rattle.media.specs.Media.{medium_of, medium_text, protocol_of, protoco
 
 use crate::number::{NONE, code, refused};
 use access::get_channel_access::{ChannelAccessMode, ChannelPrivilegeLevel};
-use auth::{AuthType, AuthTypeAnswer};
-use base::connection::{Channel, ChannelAnswer};
-use base::refusal::Refusal;
+use auth::AuthType;
+use base::connection::Channel;
 use media::get_channel_info::{ChannelMediumType, ChannelProtocolType, ChannelSessionSupport};
 
 pub fn ghj_channel_text(channel: u8, out: &mut [u8]) -> u64
     ensures { Codes (channel_name channel) result out.old out.new }
 {
-    let ChannelAnswer::Channel(channel) = Channel::new(channel) else {
-        return refused(Refusal::NoChannel);
-    };
-    code(channel.text(out))
+    match Channel::new(channel) {
+        Ok(channel) => code(channel.text(out)),
+        Err(refusal) => refused(refusal),
+    }
 }
 
 pub fn ghj_mode_text(mode: u8, out: &mut [u8]) -> u64
@@ -55,7 +54,7 @@ pub fn ghj_session_support_text(support: u8, out: &mut [u8]) -> u64
 pub fn ghj_auth_type_name(auth_type: u8, out: &mut [u8]) -> u64
     ensures { CodesAny (type_name auth_type) result out.old out.new }
 {
-    let AuthTypeAnswer::AuthType(kind) = AuthType::numbered(auth_type) else {
+    let Some(kind) = AuthType::numbered(auth_type) else {
         return NONE;
     };
     code(kind.name(out))

@@ -1,5 +1,5 @@
 // The library from C: functions on numbers and byte slices.
-#![tactic(auto)]
+#![tactic(auto, unfolding(base::specs::Written::written, base::specs::Written::length_of, base::specs::Written::over))]
 
 pub mod channel_collecting;
 pub mod collecting;

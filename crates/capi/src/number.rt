@@ -1,14 +1,10 @@
 // The number that a C function returns: what was accepted, none, where a collector stands, or a refusal.
 ghost use Rattle.std.specs.Prelude.{◌≡◌};
 ghost use Rattle.base.specs.Refusal as spec;
-ghost use Rattle.base.specs.Verdict.{said_verdict};
-ghost use Rattle.base.specs.Written.{said_written};
+ghost use Rattle.base.specs.Refusal.{said};
 ghost use Rattle.capi.specs.Number.{code, plain, standing};
-ghost use Rattle.collector.specs.Collector.{said_status};
 
 use base::refusal::Refusal;
-use base::verdict::Verdict;
-use base::written::Written;
 use collector::Status;
 
 // Three numbers that no count and no length is: no slice is as long.
@@ -33,30 +29,30 @@ pub(crate) fn refused(refusal: Refusal) -> u64
     number + 256 * (carried as u64)
 }
 
-pub(crate) fn code(written: Written) -> u64
-    ensures { result ≡ code (said_written written) }
+pub(crate) fn code(written: Result<usize, Refusal>) -> u64
+    ensures { result ≡ code (said written) }
 {
     match written {
-        Written::Length(length) => length as u64,
-        Written::Refused(refusal) => refused(refusal),
+        Ok(length) => length as u64,
+        Err(refusal) => refused(refusal),
     }
 }
 
-pub(crate) fn verdict_code(verdict: Verdict) -> u64
-    ensures { result ≡ code (plain (said_verdict verdict)) }
+pub(crate) fn verdict_code(verdict: Result<(), Refusal>) -> u64
+    ensures { result ≡ code (plain (said verdict)) }
 {
     match verdict {
-        Verdict::Accepted => 0,
-        Verdict::Refused(refusal) => refused(refusal),
+        Ok(()) => 0,
+        Err(refusal) => refused(refusal),
     }
 }
 
-pub(crate) fn status_code(status: Status) -> u64
-    ensures { result ≡ code (standing (said_status status)) }
+pub(crate) fn status_code(status: Result<Status, Refusal>) -> u64
+    ensures { result ≡ code (standing (said status)) }
 {
     match status {
-        Status::Complete(length) => length as u64,
-        Status::Missing(index) => MISSING + (index as u64),
-        Status::NoForm => refused(Refusal::NoForm),
+        Ok(Status::Complete(length)) => length as u64,
+        Ok(Status::Missing(index)) => MISSING + (index as u64),
+        Err(refusal) => refused(refusal),
     }
 }

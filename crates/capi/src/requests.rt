@@ -7,20 +7,19 @@ use crate::number::{NONE, code, refused};
 use access::get_channel_access::GetChannelAccess;
 use activation::activate_session::ActivateSession;
 use auth::get_channel_authentication_capabilities::GetChannelAuthenticationCapabilities;
-use auth::{AuthType, AuthTypeAnswer, PrivilegeAnswer, PrivilegeLevel};
-use base::connection::{Channel, ChannelAnswer};
+use auth::{AuthType, PrivilegeLevel};
+use base::connection::Channel;
 use base::refusal::Refusal;
-use base::verdict::Verdict;
-use by_suite::get_channel_cipher_suites::{BySuite, CommandAnswer as BySuiteCommand};
+use by_suite::get_channel_cipher_suites::BySuite;
 use challenge::get_session_challenge::GetSessionChallenge;
-use info::get_channel_info::{CommandAnswer as InfoCommand, GetChannelInfo};
-use suites::get_channel_cipher_suites::{CommandAnswer as SuitesCommand, GetChannelCipherSuites};
+use info::get_channel_info::GetChannelInfo;
+use suites::get_channel_cipher_suites::GetChannelCipherSuites;
 
 // 1 asks for the non-volatile settings, 2 for the volatile ones.
 pub fn ghj_access_request(channel: u8, kind: u8, out: &mut [u8]) -> u64
     ensures { Codes (access_request channel kind) result out.old out.new }
 {
-    let ChannelAnswer::Channel(channel) = Channel::new(channel) else {
+    let Ok(channel) = Channel::new(channel) else {
         return refused(Refusal::NoChannel);
     };
     match kind {
@@ -34,8 +33,8 @@ pub fn ghj_info_request(channel: u8, out: &mut [u8]) -> u64
     ensures { Codes (info_request channel) result out.old out.new }
 {
     match GetChannelInfo::numbered(channel) {
-        InfoCommand::Command(command) => code(command.write(out)),
-        InfoCommand::Refused(refusal) => refused(refusal),
+        Ok(command) => code(command.write(out)),
+        Err(refusal) => refused(refusal),
     }
 }
 
@@ -44,10 +43,10 @@ pub fn ghj_info_request(channel: u8, out: &mut [u8]) -> u64
 pub fn ghj_capabilities_request(channel: u8, privilege: u8, out: &mut [u8]) -> u64
     ensures { CodesAny (capabilities_request channel privilege) result out.old out.new }
 {
-    let ChannelAnswer::Channel(channel) = Channel::new(channel) else {
+    let Ok(channel) = Channel::new(channel) else {
         return refused(Refusal::NoChannel); // before a level that names nothing
     };
-    let PrivilegeAnswer::Level(level) = PrivilegeLevel::numbered(privilege) else {
+    let Some(level) = PrivilegeLevel::numbered(privilege) else {
         return NONE;
     };
     code(GetChannelAuthenticationCapabilities::new(channel, level).write(out))
@@ -56,15 +55,12 @@ pub fn ghj_capabilities_request(channel: u8, privilege: u8, out: &mut [u8]) -> u
 pub fn ghj_challenge_request(auth_type: u8, name: &[u8], out: &mut [u8]) -> u64
     ensures { CodesAny (challenge_request auth_type name.now) result out.old out.new }
 {
-    let AuthTypeAnswer::AuthType(kind) = AuthType::numbered(auth_type) else {
+    let Some(kind) = AuthType::numbered(auth_type) else {
         return NONE;
     };
-    let answer = GetSessionChallenge::new(kind, name);
-    let verdict = answer.verdict;
-    let command = answer.command;
-    match verdict {
-        Verdict::Accepted => code(command.write(out)),
-        Verdict::Refused(refusal) => refused(refusal),
+    match GetSessionChallenge::new(kind, name) {
+        Ok(command) => code(command.write(out)),
+        Err(refusal) => refused(refusal),
     }
 }
 
@@ -77,10 +73,10 @@ pub fn ghj_activation_request(
 ) -> u64
     ensures { CodesAny (activation_request auth_type privilege challenge.now sequence) result out.old out.new }
 {
-    let AuthTypeAnswer::AuthType(kind) = AuthType::numbered(auth_type) else {
+    let Some(kind) = AuthType::numbered(auth_type) else {
         return NONE;
     };
-    let PrivilegeAnswer::Level(level) = PrivilegeLevel::numbered(privilege) else {
+    let Some(level) = PrivilegeLevel::numbered(privilege) else {
         return NONE;
     };
     let command = ActivateSession {
@@ -96,8 +92,8 @@ pub fn ghj_suites_request(channel: u8, index: u8, out: &mut [u8]) -> u64
     ensures { Codes (suites_request channel index) result out.old out.new }
 {
     match GetChannelCipherSuites::numbered(channel, index) {
-        SuitesCommand::Command(command) => code(command.write(out)),
-        SuitesCommand::Refused(refusal) => refused(refusal),
+        Ok(command) => code(command.write(out)),
+        Err(refusal) => refused(refusal),
     }
 }
 
@@ -106,7 +102,7 @@ pub fn ghj_by_suite_request(channel: u8, index: u8, out: &mut [u8]) -> u64
     ensures { Codes (by_suite_request channel index) result out.old out.new }
 {
     match BySuite::numbered(channel, index) {
-        BySuiteCommand::Command(command) => code(command.write(out)),
-        BySuiteCommand::Refused(refusal) => refused(refusal),
+        Ok(command) => code(command.write(out)),
+        Err(refusal) => refused(refusal),
     }
 }

@@ -3,15 +3,13 @@ ghost use Rattle.capi.specs.Number.{Codes};
 ghost use Rattle.capi.specs.Records.{access_record, activation_record, by_suite_record, capabilities_record, challenge_record, info_record, suites_record};
 
 use crate::number::{code, refused};
-use access::get_channel_access::{AccessAnswer, ChannelAccess};
-use activation::activate_session::{BeginAnswer, BeginSessionInfo};
+use access::get_channel_access::ChannelAccess;
+use activation::activate_session::BeginSessionInfo;
 use auth::get_channel_authentication_capabilities::ChannelAuthenticationCapabilities;
-use base::refusal::Refusal;
-use base::verdict::Verdict;
 use base::written::place;
 use by_suite::get_channel_cipher_suites::ChannelSuites;
 use challenge::get_session_challenge::SessionChallenge;
-use info::get_channel_info::{ChannelInfo, InfoAnswer};
+use info::get_channel_info::ChannelInfo;
 use layouts::{access_layout, capabilities_layout, info_layout};
 use suites::get_channel_cipher_suites::ChannelCipherSuites;
 
@@ -19,12 +17,9 @@ use suites::get_channel_cipher_suites::ChannelCipherSuites;
 pub fn ghj_challenge(response: &[u8], out: &mut [u8]) -> u64
     ensures { Codes (challenge_record response.now) result out.old out.new }
 {
-    let answer = SessionChallenge::parse(response);
-    let verdict = answer.verdict;
-    let challenge = answer.challenge;
-    match verdict {
-        Verdict::Accepted => code(challenge.write(out)),
-        Verdict::Refused(refusal) => refused(refusal),
+    match SessionChallenge::parse(response) {
+        Ok(challenge) => code(challenge.write(out)),
+        Err(refusal) => refused(refusal),
     }
 }
 
@@ -33,8 +28,8 @@ pub fn ghj_activation(response: &[u8], out: &mut [u8]) -> u64
     ensures { Codes (activation_record response.now) result out.old out.new }
 {
     match BeginSessionInfo::parse(response) {
-        BeginAnswer::Session(info) => code(info.write(out)),
-        BeginAnswer::Refused(refusal) => refused(refusal),
+        Ok(info) => code(info.write(out)),
+        Err(refusal) => refused(refusal),
     }
 }
 
@@ -42,11 +37,9 @@ pub fn ghj_activation(response: &[u8], out: &mut [u8]) -> u64
 pub fn ghj_suites(response: &[u8], out: &mut [u8]) -> u64
     ensures { Codes (suites_record response.now) result out.old out.new }
 {
-    let answer = ChannelCipherSuites::parse(response);
-    let verdict = answer.verdict;
-    match verdict {
-        Verdict::Accepted => code(place(response, out)),
-        Verdict::Refused(refusal) => refused(refusal),
+    match ChannelCipherSuites::parse(response) {
+        Ok(_) => code(place(response, out)),
+        Err(refusal) => refused(refusal),
     }
 }
 
@@ -54,12 +47,9 @@ pub fn ghj_suites(response: &[u8], out: &mut [u8]) -> u64
 pub fn ghj_by_suite(response: &[u8], out: &mut [u8]) -> u64
     ensures { Codes (by_suite_record response.now) result out.old out.new }
 {
-    let read = ChannelSuites::parse(response);
-    let verdict = read.verdict;
-    let answer = read.answer;
-    match verdict {
-        Verdict::Accepted => code(answer.write(out)),
-        Verdict::Refused(refusal) => refused(refusal),
+    match ChannelSuites::parse(response) {
+        Ok(answer) => code(answer.write(out)),
+        Err(refusal) => refused(refusal),
     }
 }
 
@@ -67,8 +57,8 @@ pub fn ghj_access(response: &[u8], out: &mut [u8]) -> u64
     ensures { Codes (access_record response.now) result out.old out.new }
 {
     match ChannelAccess::parse(response) {
-        AccessAnswer::Access(access) => code(place(&access_layout(access), out)),
-        AccessAnswer::NotEnoughData => refused(Refusal::NotEnoughData),
+        Ok(access) => code(place(&access_layout(access), out)),
+        Err(refusal) => refused(refusal),
     }
 }
 
@@ -76,19 +66,16 @@ pub fn ghj_info(response: &[u8], out: &mut [u8]) -> u64
     ensures { Codes (info_record response.now) result out.old out.new }
 {
     match ChannelInfo::parse(response) {
-        InfoAnswer::Info(info) => code(place(&info_layout(info), out)),
-        InfoAnswer::NotEnoughData => refused(Refusal::NotEnoughData),
+        Ok(info) => code(place(&info_layout(info), out)),
+        Err(refusal) => refused(refusal),
     }
 }
 
 pub fn ghj_capabilities(response: &[u8], out: &mut [u8]) -> u64
     ensures { Codes (capabilities_record response.now) result out.old out.new }
 {
-    let answer = ChannelAuthenticationCapabilities::parse(response);
-    let verdict = answer.verdict;
-    let capabilities = answer.capabilities;
-    match verdict {
-        Verdict::Accepted => code(place(&capabilities_layout(capabilities), out)),
-        Verdict::Refused(refusal) => refused(refusal),
+    match ChannelAuthenticationCapabilities::parse(response) {
+        Ok(capabilities) => code(place(&capabilities_layout(capabilities), out)),
+        Err(refusal) => refused(refusal),
     }
 }

@@ -4,10 +4,9 @@ ghost use Rattle.capi.specs.Settings.{set_access_applied, set_access_record, set
 
 use crate::number::{code, refused};
 use base::connection::Channel;
-use base::refusal::Refusal;
 use base::written::place;
 use layouts::{access_record, set_access_layout, settings_layout, settings_record};
-use set_access::set_channel_access::{AccessPair, CommandAnswer, SetChannelAccess, SettingsAnswer};
+use set_access::set_channel_access::{AccessPair, SetChannelAccess};
 
 // A pair is 0 leave, 1 non-volatile, 2 volatile.
 pub fn ghj_set_access_request(
@@ -22,8 +21,8 @@ pub fn ghj_set_access_request(
     let mode = AccessPair::from(mode_pair);
     let limit = AccessPair::from(limit_pair);
     match SetChannelAccess::numbered(channel, mode, limit, access_record(access)) {
-        CommandAnswer::Command(command) => code(command.write(out)),
-        CommandAnswer::Refused(refusal) => refused(refusal),
+        Ok(command) => code(command.write(out)),
+        Err(refusal) => refused(refusal),
     }
 }
 
@@ -32,8 +31,8 @@ pub fn ghj_set_access(request: &[u8], out: &mut [u8]) -> u64
     ensures { Codes (set_access_record request.now) result out.old out.new }
 {
     match SetChannelAccess::read(request) {
-        CommandAnswer::Command(command) => code(place(&set_access_layout(command), out)),
-        CommandAnswer::Refused(refusal) => refused(refusal),
+        Ok(command) => code(place(&set_access_layout(command), out)),
+        Err(refusal) => refused(refusal),
     }
 }
 
@@ -54,7 +53,7 @@ pub fn ghj_set_access_apply(
         access: access_record(access),
     };
     match command.apply(settings_record(settings)) {
-        SettingsAnswer::Settings(after) => code(place(&settings_layout(after), out)),
-        SettingsAnswer::NoForm => refused(Refusal::NoForm),
+        Ok(after) => code(place(&settings_layout(after), out)),
+        Err(refusal) => refused(refusal),
     }
 }

@@ -7,15 +7,16 @@ ghost use Rattle.capi.specs.Numbered.{compared, order_number};
 ghost use Rattle.layouts.specs.Layouts.{is_set};
 
 use crate::number::NONE;
-use auth::{AuthType, AuthTypeAnswer, Ordering};
+use auth::AuthType;
+use std::cmp::Ordering;
 
 // Each argument: 0 where the type is not offered.
 pub fn ghj_best_auth(key: u8, md5: u8, md2: u8, none: u8) -> u64
     ensures { result ≡ code (or_none auth_type_value (accepted (best_of (is_set key) (is_set md5) (is_set md2) (is_set none)))) }
 {
     match AuthType::best_of(key != 0, md5 != 0, md2 != 0, none != 0) {
-        AuthTypeAnswer::AuthType(kind) => kind.value() as u64,
-        AuthTypeAnswer::Nothing => NONE,
+        Some(kind) => u8::from(kind) as u64,
+        None => NONE,
     }
 }
 
@@ -33,10 +34,10 @@ fn order_number(order: Ordering) -> u64
 pub fn ghj_compare_strength(auth_type: u8, other: u8) -> u64
     ensures { result ≡ code (or_none order_number (compared auth_type other)) }
 {
-    let AuthTypeAnswer::AuthType(kind) = AuthType::numbered(auth_type) else {
+    let Some(kind) = AuthType::numbered(auth_type) else {
         return NONE;
     };
-    let AuthTypeAnswer::AuthType(second) = AuthType::numbered(other) else {
+    let Some(second) = AuthType::numbered(other) else {
         return NONE;
     };
     order_number(kind.compare_strength(second))

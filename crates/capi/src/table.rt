@@ -3,17 +3,17 @@ ghost use Rattle.std.specs.Prelude.{◌≡◌};
 ghost use Rattle.base.specs.Outcome.{accepted};
 ghost use Rattle.capi.specs.Number.{CodesAny, code, or_none};
 ghost use Rattle.capi.specs.Table.{algorithms_of, suite_number};
-ghost use Rattle.suites.specs.GetChannelCipherSuites.{row, said_suite, suite_for};
+ghost use Rattle.suites.specs.GetChannelCipherSuites.{row, suite_for};
 
 use crate::number::{NONE, code};
 use base::written::place;
-use suites::get_channel_cipher_suites::{CipherSuite, Row, RowAnswer, SuiteAnswer};
+use suites::get_channel_cipher_suites::{CipherSuite, Row};
 
 // The numbers of the suite's authentication, integrity and confidentiality.
 pub fn ghj_suite_algorithms(suite: u8, out: &mut [u8]) -> u64
     ensures { CodesAny (accepted (algorithms_of suite)) result out.old out.new }
 {
-    let RowAnswer::Row(row) = CipherSuite(suite).into_suite() else {
+    let Some(row) = CipherSuite(suite).into_suite() else {
         return NONE;
     };
     code(place(
@@ -22,12 +22,12 @@ pub fn ghj_suite_algorithms(suite: u8, out: &mut [u8]) -> u64
     ))
 }
 
-pub(crate) fn suite_number(answer: SuiteAnswer) -> u64
-    ensures { result ≡ code (or_none suite_number (said_suite answer)) }
+pub(crate) fn suite_number(answer: Option<CipherSuite>) -> u64
+    ensures { result ≡ code (or_none suite_number (accepted answer)) }
 {
     match answer {
-        SuiteAnswer::Suite(suite) => suite.id() as u64,
-        SuiteAnswer::Nothing => NONE,
+        Some(suite) => suite.id() as u64,
+        None => NONE,
     }
 }
 

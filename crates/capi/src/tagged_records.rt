@@ -1,37 +1,32 @@
 // Cipher suite records with their tags: a step of the reading, the count, the two lists, the algorithms' numbers, and a record written.
 ghost use Rattle.std.specs.Prelude.{◌≡◌};
 ghost use Rattle.base.specs.Outcome.{accepted};
-ghost use Rattle.base.specs.Written.{Writes};
 ghost use Rattle.capi.specs.Number.{Codes, code};
 ghost use Rattle.capi.specs.TaggedRecords.{record_bytes, record_written, step_record};
 ghost use Rattle.tagged.specs.TaggedRecords.{count_of, listing_of, numbers_in, strict_numbers_of};
 
 use crate::number::{code, refused};
-use base::little::bytes8;
+use base::little::bytes;
 use base::refusal::Refusal;
-use base::written::{Written, join};
+use base::written::place;
 use tagged::tagged_records::{
-    CountAnswer, Owner, StepAnswer, TaggedRecord, algorithm_numbers, count, entry, step_at,
-    suite_listing, suite_numbers, write,
+    Owner, TaggedRecord, algorithm_numbers, count, entry, step_at, suite_listing, suite_numbers,
+    write,
 };
 
 // A record that was read: the number; 0, or 1 for a vendor's own; the vendor's number, three bytes; the authentication; two
 // zeros; the places where the integrity and the confidentiality bytes begin and where the record ends, eight bytes each. Low
 // byte first.
-fn write_record(suite: TaggedRecord, out: &mut [u8]) -> Written
-    ensures { Writes (accepted (record_bytes suite)) result out.old out.new }
+fn record_bytes(suite: TaggedRecord) -> [u8; 32]
+    ensures { result ≡ record_bytes suite }
 {
-    let e = entry(suite);
-    let head = [e[0], e[1], e[2], e[3], e[4], suite.authentication, 0, 0];
-    let mut behind = [0; 16];
-    join(
-        &bytes8(suite.confidentiality),
-        &bytes8(suite.end),
-        &mut behind,
-    );
-    let mut places = [0; 24];
-    join(&bytes8(suite.integrity), &behind, &mut places);
-    join(&head, &places, out)
+    let mut record = [0; 32];
+    record[..5].copy_from_slice(&entry(suite));
+    record[5] = suite.authentication;
+    record[8..16].copy_from_slice(&bytes::<8>(suite.integrity as u64));
+    record[16..24].copy_from_slice(&bytes::<8>(suite.confidentiality as u64));
+    record[24..].copy_from_slice(&bytes::<8>(suite.end as u64));
+    record
 }
 
 // The record at a position; at the end nothing is written, and the number is 0. The reading goes on from where the record ends.
@@ -39,19 +34,16 @@ pub fn ghj_tagged_step(list: &[u8], position: usize, out: &mut [u8]) -> u64
     ensures { Codes (step_record list.now position) result out.old out.new }
 {
     match step_at(list, position) {
-        StepAnswer::Record(record) => code(write_record(record, out)),
-        StepAnswer::End => 0,
-        StepAnswer::BadRecord(place) => refused(Refusal::BadRecord(place)),
+        Ok(Some(record)) => code(place(&record_bytes(record), out)),
+        Ok(None) => 0,
+        Err(refusal) => refused(refusal),
     }
 }
 
 pub fn ghj_tagged_count(list: &[u8]) -> u64
     ensures { result ≡ code (count_of list.now) }
 {
-    match count(list) {
-        CountAnswer::Count(n) => n as u64,
-        CountAnswer::BadRecord(place) => refused(Refusal::BadRecord(place)),
-    }
+    code(count(list))
 }
 
 // The records' numbers, in their order.

@@ -4,30 +4,28 @@ use mathlib.Core.Path.{◌≡◌, refl, sym, ◌∙◌, ap}
 use Prim.Native.Nat.{ℕ, zero, suc}
 use native.Mathlib.Omega.{arith}
 use lib.ListN.{drop}
+use Rattle.std.specs.Prelude.{Result}
 use Rattle.base.specs.Connection.{channel_field, channel_of}
 use Rattle.base.specs.Field.{Bytes, byte}
 use Rattle.base.specs.Outcome.{accepted, ◌>>=◌}
+use Rattle.base.specs.Refusal.{said}
 use Rattle.base.specs.declared.connection.Channel.{Channel}
+use Rattle.base.specs.declared.refusal.Refusal.{Refusal}
 use Rattle.base.proofs.Outcome.{apart, steps}
 use Rattle.base.proofs.connection.Laws.{value_new}
 use Rattle.access.specs.declared.get_channel_access.ChannelAccess.{ChannelAccess}
-use Rattle.set_access.specs.SetChannelAccess.{applied, command, command_bytes, command_for, command_of, pair_field, pair_of, pair_value, parts_bytes, said_command, said_settings}
+use Rattle.set_access.specs.SetChannelAccess.{applied, command, command_bytes, command_for, command_of, pair_field, pair_of, pair_value, parts_bytes}
 use Rattle.set_access.specs.declared.set_channel_access.AccessPair.{AccessPair}
 use Rattle.set_access.specs.declared.set_channel_access.ChannelSettings.{ChannelSettings}
-use Rattle.set_access.specs.declared.set_channel_access.CommandAnswer.{CommandAnswer}
-use Rattle.set_access.specs.declared.set_channel_access.SettingsAnswer.{SettingsAnswer}
 use Rattle.set_access.proofs.set_channel_access.Laws.{command_back, command_iff, pair_reserved, parts_are}
 use Rattle.layouts.specs.Layouts.{access_record, set_access_layout, settings_layout, settings_record}
 use Rattle.layouts.proofs.Laws.{flagged, record_laid, set_access_back}
 use Rattle.capi.specs.Settings.{set_access_applied, set_access_record, set_access_request}
 
--- What is answered of a command of Set Channel Access whose parts were made first: its making, and its applying.
+-- What is answered of a command whose parts were made first: its applying.
 module _ {m m' l l' : AccessPair} {a a' : ChannelAccess} (p : m ≡ m') (q : l ≡ l') (r : a ≡ a') where
-  pub made_of : {x y : CommandAnswer} (number : ℕ) → said_command x ≡ command_for number m l a → x ≡ y → command_for number m' l' a' ≡ said_command y
-  made_of number e f = rw (← f, ← p, ← q, ← r) (sym e)
-
-  pub applied_of : {x y : SettingsAnswer} {s s' : ChannelSettings} (channel : Channel) → s ≡ s' → said_settings x ≡ applied (command channel m l a) s → x ≡ y
-      → applied (command channel m' l' a') s' ≡ said_settings y
+  pub applied_of : {x y : Result ChannelSettings Refusal} {s s' : ChannelSettings} (channel : Channel) → s ≡ s' → said x ≡ applied (command channel m l a) s → x ≡ y
+      → applied (command channel m' l' a') s' ≡ said y
   applied_of channel t e f = rw (← f, ← p, ← q, ← r, ← t) (sym e)
 
 -- The channel that stands in `set_access_applied` might be any.

@@ -1,14 +1,7 @@
-use Rattle.base.proofs.verdict.Laws.{fell, gave}
+use mathlib.Core.Path.{sym}
 use Rattle.suites.proofs.get_channel_cipher_suites.Laws.{suites_given}
-use Rattle.capi.proofs.Laws.{coding, refused_coded}
+use Rattle.capi.proofs.Laws.{coding}
 use Rattle.capi.proofs.responses.ghj_suites.Goals as goal
 
-pub returns-in-Accepted : goal.returns-in-Accepted
-returns-in-Accepted c =
-    let e = gave _ c.parse-answer.ensures c.in-Accepted.is in
-    rw (e, suites_given _ _ e) (coding c.code.ensures c.place.ensures)
-
-pub returns-in-Refused : goal.returns-in-Refused
-returns-in-Refused c =
-    let e = (fell _ c.in-Refused.refusal c.parse-answer.ensures c.in-Refused.is).0 in
-    refused_coded c.in-Refused.refusal c.args.out.now (rw e) c.refused.ensures
+pub returns-in-Ok : goal.returns-in-Ok
+returns-in-Ok c = rw (← c.in-Ok.ensures, suites_given _ _ (sym c.in-Ok.ensures)) (coding c.code.ensures c.place.ensures)
