@@ -5,18 +5,6 @@ use Rattle.base.proofs.Said.{said_one}
 use Rattle.base.proofs.Verdict.{beside}
 use Rattle.by_suite.proofs as p
 
-pub by_suite_new_unique : Unique p.get_channel_cipher_suites.BySuite.new.Kinds.ps p.get_channel_cipher_suites.BySuite.new.Kinds.r p.get_channel_cipher_suites.BySuite.new.Reads.Asked p.get_channel_cipher_suites.BySuite.new.Reads.Learnt
-by_suite_new_unique κs a ok z z' w w' q q' = (said_one z z' (both q q'), refl)
-
-pub by_suite_numbered_unique : Unique p.get_channel_cipher_suites.BySuite.numbered.Kinds.ps p.get_channel_cipher_suites.BySuite.numbered.Kinds.r p.get_channel_cipher_suites.BySuite.numbered.Reads.Asked p.get_channel_cipher_suites.BySuite.numbered.Reads.Learnt
-by_suite_numbered_unique κs a ok z z' w w' q q' = (said_one z z' (both q q'), refl)
-
-pub by_suite_write_unique : Unique p.get_channel_cipher_suites.BySuite.write.Kinds.ps p.get_channel_cipher_suites.BySuite.write.Kinds.r p.get_channel_cipher_suites.BySuite.write.Reads.Asked p.get_channel_cipher_suites.BySuite.write.Reads.Learnt
-by_suite_write_unique κs a ok z z' w w' q q' = writer 1 q q'
-
-pub by_suite_read_unique : Unique p.get_channel_cipher_suites.BySuite.read.Kinds.ps p.get_channel_cipher_suites.BySuite.read.Kinds.r p.get_channel_cipher_suites.BySuite.read.Reads.Asked p.get_channel_cipher_suites.BySuite.read.Reads.Learnt
-by_suite_read_unique κs a ok z z' w w' q q' = (said_one z z' (both q q'), refl)
-
 pub channel_suites_parse_unique : Unique p.get_channel_cipher_suites.ChannelSuites.parse.Kinds.ps p.get_channel_cipher_suites.ChannelSuites.parse.Kinds.r p.get_channel_cipher_suites.ChannelSuites.parse.Reads.Asked p.get_channel_cipher_suites.ChannelSuites.parse.Reads.Learnt
 channel_suites_parse_unique κs a ok z z' w w' q q' = (said_one z z' (both q q'), refl)
 

@@ -1,52 +1,21 @@
 -- Get Channel Cipher Suites, asked by suite. Document 02, C-12: "bit 7 of the request's last byte asks for the list by suite"; IPMI 2.0, Table 22-17.
-use Rattle.std.specs.Prelude.{ℕ, ◌+◌, ◌-◌, Bool, List, [], ◌∷◌, length, drop, if◌then◌else◌}
+use Rattle.std.specs.Prelude.{ℕ, Bool, List, [], ◌∷◌, length, drop, if◌then◌else◌}
 use Rattle.base.specs.Choice.{◌<?◌}
 use Rattle.base.specs.Connection.{channel_of, channel_field}
-use Rattle.base.specs.Field.{bits, byte, within}
+use Rattle.base.specs.Field.{bits}
 use Rattle.base.specs.Outcome.{Outcome, accepted, refused, ◌>>=◌, is_accepted}
-use Rattle.base.specs.Request.{request}
 use Rattle.base.specs.declared.connection.Channel.{Channel}
-use Rattle.collector.specs.Collector.{last_index, part_length}
+use Rattle.collector.specs.Collector.{part_length}
 use Rattle.suites.specs.GetChannelCipherSuites as suites
 use Rattle.suites.specs.GetChannelCipherSuites.{part, suites_bytes}
 use Rattle.suites.specs.declared.get_channel_cipher_suites.ChannelCipherSuites.{ChannelCipherSuites}
-use Rattle.by_suite.specs.declared.get_channel_cipher_suites.BySuite.{BySuite}
 use Rattle.by_suite.specs.declared.get_channel_cipher_suites.ChannelSuites.{ChannelSuites}
 
--- The request: the channel, payload type 0, and the index with bit 7 set.
+-- The request is the crate's, `command_bytes` and the rest of `suites`, with this bit above the index.
 
 -- "bit 7 of the request's last byte"
 abbrev pub list_by_suite : ℕ
 list_by_suite = 0x80
-
--- a command holds its channel and its index
-abbrev pub command : Channel → ℕ → BySuite
-command channel index = record { channel = channel; list_index = index }
-
--- 7 for a "list index above 0x3F"
-abbrev pub command_on : Channel → ℕ → Outcome BySuite
-command_on channel index = if last_index <? index then refused 7 [] else accepted (command channel index)
-
--- made for a channel that is given as a number: 6, then 7
-abbrev pub command_for : ℕ → ℕ → Outcome BySuite
-command_for number index = do
-  channel ← channel_of number
-  command_on channel index
-
--- "its request written": three bytes; 9 for a channel that no number makes, or an index above 0x3F
-abbrev pub command_bytes : BySuite → Outcome (List ℕ)
-command_bytes c = do
-  channel ← channel_field c.channel
-  index ← within 0 last_index c.list_index
-  accepted (channel ∷ 0 ∷ (list_by_suite + index) ∷ [])
-
--- "and strictly read": every fault is 10
-abbrev pub command_of : List ℕ → Outcome BySuite
-command_of bytes = request 3 bytes (do
-  channel ← channel_of (byte 0 bytes)
-  payload ← within 0 0 (byte 1 bytes)
-  last ← within list_by_suite (list_by_suite + last_index) (byte 2 bytes)
-  accepted (command channel (last - list_by_suite)))
 
 -- The answer: "a channel byte comes first, then up to sixteen record bytes".
 

@@ -1,85 +1,21 @@
 // Get Channel Cipher Suites, App 54h, asked by suite: IPMI 2.0, Table 22-17. Beside the Rust's get_channel_cipher_suites.rs.
 ghost use Rattle.std.specs.Prelude.{◌≡◌};
-ghost use Rattle.by_suite.specs.GetChannelCipherSuites.{Typed, answer_bytes, answer_of, command_bytes, command_for, command_of, command_on, number_in};
+ghost use Rattle.by_suite.specs.GetChannelCipherSuites.{Typed, answer_bytes, answer_of, number_in};
 ghost use Rattle.base.specs.Refusal.{said};
 ghost use Rattle.base.specs.Written.{Writes};
 
 use base::connection::Channel;
-use base::field::{bits, within};
+use base::field::bits;
 use base::refusal::Refusal;
 use base::written::place;
 use collector::Collector;
-use suites::get_channel_cipher_suites::ChannelCipherSuites;
+use suites::get_channel_cipher_suites::{ChannelCipherSuites, ListCommand};
 
-// Bit 7 of the request's last byte.
-const BY_SUITE: u8 = 0x80;
+// The command: bit 7 of its request's last byte is set.
+pub type BySuite = ListCommand<0x80>;
 
 // The most bytes of an answer: its channel, and a part of the list.
 const ANSWER: usize = 1 + Collector::PART;
-
-// The crate's GetChannelCipherSuites, with bit 7 set where it is written.
-#[derive(Drop)]
-pub struct BySuite {
-    pub channel: Channel,
-    pub list_index: u8,
-}
-
-// Refused 6 or 7 where it is made, 10 where it is read.
-impl BySuite {
-    pub fn new(channel: Channel, list_index: u8) -> Result<Self, Refusal>
-        ensures { said result ≡ command_on channel list_index }
-    {
-        if Collector::LAST_INDEX < list_index {
-            return Err(Refusal::BadIndex);
-        }
-        Ok(BySuite {
-            channel,
-            list_index,
-        })
-    }
-
-    // For a channel that is given as a number.
-    pub fn numbered(number: u8, list_index: u8) -> Result<Self, Refusal>
-        ensures { said result ≡ command_for number list_index }
-    {
-        Self::new(Channel::new(number)?, list_index)
-    }
-
-    // The request's data.
-    pub fn write(self, out: &mut [u8]) -> Result<usize, Refusal>
-        ensures { Writes (command_bytes self) result out.old out.new }
-    {
-        let number = self.channel.field()?;
-        let index = within(self.list_index, 0, Collector::LAST_INDEX)?;
-        place(&[number, 0, BY_SUITE + index], out)
-    }
-
-    // The command whose request this is: takes only what some command writes.
-    pub fn read(request: &[u8]) -> Result<Self, Refusal>
-        ensures { said result ≡ command_of request.now }
-    {
-        if request.len() != 3 {
-            return Err(Refusal::NotARequest);
-        }
-        let Ok(channel) = Channel::new(request[0]) else {
-            return Err(Refusal::NotARequest);
-        };
-        if request[1] != 0 {
-            return Err(Refusal::NotARequest);
-        }
-        let last = request[2];
-        if last < BY_SUITE {
-            return Err(Refusal::NotARequest);
-        }
-        if BY_SUITE + Collector::LAST_INDEX < last {
-            return Err(Refusal::NotARequest);
-        }
-        Ok(BySuite {
-            channel,
-            list_index: last - BY_SUITE,
-        })
-    }
-}
 
 // What the first byte of an answer says: the channel's number. The low nibble alone counts.
 pub(crate) fn number_in(response: &[u8]) -> Result<u8, Refusal>

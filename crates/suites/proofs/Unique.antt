@@ -1,5 +1,8 @@
 -- Any two outcomes that a public function's promise allows at the same arguments coincide.
+use Prim.Native.Nat.{ℕ}
 use mathlib.Core.Path.{refl, ap}
+use mir.Syntax.{w8}
+use mir.Val.{Fits}
 use Rattle.base.proofs.Unique.{Unique, UniquePart, both, writer}
 use Rattle.base.proofs.Said.{said_one}
 use Rattle.suites.proofs as p
@@ -25,17 +28,17 @@ cipher_suite_integrity_unique κs a ok z z' w w' q q' = (both q q', refl)
 pub cipher_suite_confidentiality_unique : Unique p.get_channel_cipher_suites.CipherSuite.confidentiality.Kinds.ps p.get_channel_cipher_suites.CipherSuite.confidentiality.Kinds.r p.get_channel_cipher_suites.CipherSuite.confidentiality.Reads.Asked p.get_channel_cipher_suites.CipherSuite.confidentiality.Reads.Learnt
 cipher_suite_confidentiality_unique κs a ok z z' w w' q q' = (both q q', refl)
 
-pub get_channel_cipher_suites_new_unique : Unique p.get_channel_cipher_suites.GetChannelCipherSuites.new.Kinds.ps p.get_channel_cipher_suites.GetChannelCipherSuites.new.Kinds.r p.get_channel_cipher_suites.GetChannelCipherSuites.new.Reads.Asked p.get_channel_cipher_suites.GetChannelCipherSuites.new.Reads.Learnt
-get_channel_cipher_suites_new_unique κs a ok z z' w w' q q' = (said_one z z' (both q q'), refl)
+pub list_command_new_unique : (bit : ℕ) (f : Fits w8 bit) → Unique (p.get_channel_cipher_suites.ListCommand.new.Kinds.ps bit f) (p.get_channel_cipher_suites.ListCommand.new.Kinds.r bit f) (p.get_channel_cipher_suites.ListCommand.new.Reads.Asked bit f) (p.get_channel_cipher_suites.ListCommand.new.Reads.Learnt bit f)
+list_command_new_unique bit f κs a ok z z' w w' q q' = (said_one z z' (both q q'), refl)
 
-pub get_channel_cipher_suites_numbered_unique : Unique p.get_channel_cipher_suites.GetChannelCipherSuites.numbered.Kinds.ps p.get_channel_cipher_suites.GetChannelCipherSuites.numbered.Kinds.r p.get_channel_cipher_suites.GetChannelCipherSuites.numbered.Reads.Asked p.get_channel_cipher_suites.GetChannelCipherSuites.numbered.Reads.Learnt
-get_channel_cipher_suites_numbered_unique κs a ok z z' w w' q q' = (said_one z z' (both q q'), refl)
+pub list_command_numbered_unique : (bit : ℕ) (f : Fits w8 bit) → Unique (p.get_channel_cipher_suites.ListCommand.numbered.Kinds.ps bit f) (p.get_channel_cipher_suites.ListCommand.numbered.Kinds.r bit f) (p.get_channel_cipher_suites.ListCommand.numbered.Reads.Asked bit f) (p.get_channel_cipher_suites.ListCommand.numbered.Reads.Learnt bit f)
+list_command_numbered_unique bit f κs a ok z z' w w' q q' = (said_one z z' (both q q'), refl)
 
-pub get_channel_cipher_suites_write_unique : Unique p.get_channel_cipher_suites.GetChannelCipherSuites.write.Kinds.ps p.get_channel_cipher_suites.GetChannelCipherSuites.write.Kinds.r p.get_channel_cipher_suites.GetChannelCipherSuites.write.Reads.Asked p.get_channel_cipher_suites.GetChannelCipherSuites.write.Reads.Learnt
-get_channel_cipher_suites_write_unique κs a ok z z' w w' q q' = writer 1 q q'
+pub list_command_write_unique : (bit : ℕ) (f : Fits w8 bit) → Unique (p.get_channel_cipher_suites.ListCommand.write.Kinds.ps bit f) (p.get_channel_cipher_suites.ListCommand.write.Kinds.r bit f) (p.get_channel_cipher_suites.ListCommand.write.Reads.Asked bit f) (p.get_channel_cipher_suites.ListCommand.write.Reads.Learnt bit f)
+list_command_write_unique bit f κs a ok z z' w w' q q' = writer 1 q q'
 
-pub get_channel_cipher_suites_read_unique : Unique p.get_channel_cipher_suites.GetChannelCipherSuites.read.Kinds.ps p.get_channel_cipher_suites.GetChannelCipherSuites.read.Kinds.r p.get_channel_cipher_suites.GetChannelCipherSuites.read.Reads.Asked p.get_channel_cipher_suites.GetChannelCipherSuites.read.Reads.Learnt
-get_channel_cipher_suites_read_unique κs a ok z z' w w' q q' = (said_one z z' (both q q'), refl)
+pub list_command_read_unique : (bit : ℕ) (f : Fits w8 bit) → Unique (p.get_channel_cipher_suites.ListCommand.read.Kinds.ps bit f) (p.get_channel_cipher_suites.ListCommand.read.Kinds.r bit f) (p.get_channel_cipher_suites.ListCommand.read.Reads.Asked bit f) (p.get_channel_cipher_suites.ListCommand.read.Reads.Learnt bit f)
+list_command_read_unique bit f κs a ok z z' w w' q q' = (said_one z z' (both q q'), refl)
 
 pub channel_cipher_suites_parse_unique : Unique p.get_channel_cipher_suites.ChannelCipherSuites.parse.Kinds.ps p.get_channel_cipher_suites.ChannelCipherSuites.parse.Kinds.r p.get_channel_cipher_suites.ChannelCipherSuites.parse.Reads.Asked p.get_channel_cipher_suites.ChannelCipherSuites.parse.Reads.Learnt
 channel_cipher_suites_parse_unique κs a ok z z' w w' q q' = (said_one z z' (both q q'), refl)

@@ -1,5 +1,5 @@
 -- Get Channel Cipher Suites. Document 01, "Suites"; IPMI 2.0, Table 22-17.
-use Rattle.std.specs.Prelude.{ℕ, zero, suc, ◌+◌, Bool, true, false, ◌&&◌, List, [], ◌∷◌, map, length, take, drop, if◌then◌else◌, Option, Some, None}
+use Rattle.std.specs.Prelude.{ℕ, zero, suc, ◌+◌, bit_or, bit_xor, Bool, true, false, ◌&&◌, List, [], ◌∷◌, map, length, take, drop, if◌then◌else◌, Option, Some, None}
 use Rattle.auth.specs.Algorithms as Algorithms
 use Rattle.auth.specs.declared.algorithms.AuthenticationAlgorithm.{AuthenticationAlgorithm}
 use Rattle.auth.specs.declared.algorithms.ConfidentialityAlgorithm.{ConfidentialityAlgorithm}
@@ -15,40 +15,40 @@ use Rattle.base.specs.declared.connection.Channel.{Channel}
 use Rattle.collector.specs.Collector.{last_index, part_length}
 use Rattle.suites.specs.declared.get_channel_cipher_suites.ChannelCipherSuites.{ChannelCipherSuites}
 use Rattle.suites.specs.declared.get_channel_cipher_suites.CipherSuite.{CipherSuite}
-use Rattle.suites.specs.declared.get_channel_cipher_suites.GetChannelCipherSuites.{GetChannelCipherSuites}
+use Rattle.suites.specs.declared.get_channel_cipher_suites.ListCommand.{ListCommand}
 use Rattle.suites.specs.declared.get_channel_cipher_suites.Iter.{Iter}
 use Rattle.suites.specs.declared.get_channel_cipher_suites.Row.{Row}
 use Rattle.suites.specs.declared.get_channel_cipher_suites.Step.{Step}
 
--- The request: the channel, payload type 0, and the index, bit 7 above it clear.
+-- The request: the channel, payload type 0, and the index below a bit: 0 in the crate's, bit 7 in the one by suite (document 02, C-12).
 
 -- a command holds its channel and its index
-abbrev pub command : Channel → ℕ → GetChannelCipherSuites
-command channel index = record { channel = channel; list_index = index }
+abbrev pub command : (bit : ℕ) → Channel → ℕ → ListCommand bit
+command bit channel index = record { channel = channel; list_index = index }
 
 -- 7 for a "list index above 0x3F"
-abbrev pub command_on : Channel → ℕ → Outcome GetChannelCipherSuites
-command_on channel index = if last_index <? index then refused 7 [] else accepted (command channel index)
+abbrev pub command_on : (bit : ℕ) → Channel → ℕ → Outcome (ListCommand bit)
+command_on bit channel index = if last_index <? index then refused 7 [] else accepted (command bit channel index)
 
 -- made for a channel that is given as a number: "6, then 7"
-abbrev pub command_for : ℕ → ℕ → Outcome GetChannelCipherSuites
-command_for number index = do
+abbrev pub command_for : (bit : ℕ) → ℕ → ℕ → Outcome (ListCommand bit)
+command_for bit number index = do
   channel ← channel_of number
-  command_on channel index
+  command_on bit channel index
 
 -- "request 54h, 3 bytes"; 9 for a channel that no number makes, or an index above 0x3F
-abbrev pub command_bytes : GetChannelCipherSuites → Outcome (List ℕ)
-command_bytes c = do
+abbrev pub command_bytes : (bit : ℕ) → ListCommand bit → Outcome (List ℕ)
+command_bytes bit c = do
   channel ← channel_field c.channel
   index ← within 0 last_index c.list_index
-  accepted (channel ∷ 0 ∷ index ∷ [])
+  accepted (channel ∷ 0 ∷ bit_or bit index ∷ [])
 
 -- the same, read: "a request reader turns every fault into 10"
-abbrev pub command_of : List ℕ → Outcome GetChannelCipherSuites
-command_of bytes = request 3 bytes (do
+abbrev pub command_of : (bit : ℕ) → List ℕ → Outcome (ListCommand bit)
+command_of bit bytes = request 3 bytes (do
   channel ← channel_of (byte 0 bytes)
   payload ← within 0 0 (byte 1 bytes)
-  command_on channel (byte 2 bytes))
+  command_on bit channel (bit_xor bit (byte 2 bytes)))
 
 -- The response: a part of the list, as the Rust reads it.
 

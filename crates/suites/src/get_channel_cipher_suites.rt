@@ -13,23 +13,26 @@ use base::refusal::Refusal;
 use base::written::place;
 use collector::Collector;
 
+// Refused 6 or 7 where it is made, 10 where it is read. BIT is what stands above the index in the request's last byte: bit 7.
 #[derive(Drop)]
-pub struct GetChannelCipherSuites {
+pub struct ListCommand<const BIT: u8> {
     pub channel: Channel,
     pub list_index: u8,
 }
 
-// Refused 6 or 7 where it is made, 10 where it is read.
-impl GetChannelCipherSuites {
+// The Rust's: bit 7 stays clear. `by_suite` has the command whose bit 7 is set.
+pub type GetChannelCipherSuites = ListCommand<0>;
+
+impl<const BIT: u8> ListCommand<BIT> {
     pub const COMMAND: u8 = 0x54;
 
     pub fn new(channel: Channel, list_index: u8) -> Result<Self, Refusal>
-        ensures { said result ≡ command_on channel list_index }
+        ensures { said result ≡ command_on BIT channel list_index }
     {
         if Collector::LAST_INDEX < list_index {
             return Err(Refusal::BadIndex);
         }
-        Ok(GetChannelCipherSuites {
+        Ok(ListCommand {
             channel,
             list_index,
         })
@@ -37,23 +40,23 @@ impl GetChannelCipherSuites {
 
     // For a channel that is given as a number.
     pub fn numbered(number: u8, list_index: u8) -> Result<Self, Refusal>
-        ensures { said result ≡ command_for number list_index }
+        ensures { said result ≡ command_for BIT number list_index }
     {
         Self::new(Channel::new(number)?, list_index)
     }
 
-    // The request's data: bit 7 of the last byte stays clear.
+    // The request's data.
     pub fn write(self, out: &mut [u8]) -> Result<usize, Refusal>
-        ensures { Writes (command_bytes self) result out.old out.new }
+        ensures { Writes (command_bytes BIT self.entry) result out.old out.new }
     {
         let number = self.channel.field()?;
         let index = within(self.list_index, 0, Collector::LAST_INDEX)?;
-        place(&[number, 0, index], out)
+        place(&[number, 0, BIT | index], out)
     }
 
     // The command whose request this is: takes only what some command writes.
     pub fn read(request: &[u8]) -> Result<Self, Refusal>
-        ensures { said result ≡ command_of request.now }
+        ensures { said result ≡ command_of BIT request.now }
     {
         if request.len() != 3 {
             return Err(Refusal::NotARequest);
@@ -64,11 +67,11 @@ impl GetChannelCipherSuites {
         if request[1] != 0 {
             return Err(Refusal::NotARequest);
         }
-        let index = request[2];
+        let index = BIT ^ request[2];
         if Collector::LAST_INDEX < index {
             return Err(Refusal::NotARequest);
         }
-        Ok(GetChannelCipherSuites {
+        Ok(ListCommand {
             channel,
             list_index: index,
         })

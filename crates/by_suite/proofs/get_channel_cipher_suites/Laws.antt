@@ -1,97 +1,73 @@
 -- Laws of the request by suite, and of the answer read alone.
 use mathlib.Core.Logic.{◌↔◌}
 use mathlib.Core.Path.{◌≡◌, refl, sym, ◌∙◌, ap}
-use mathlib.Core.Bool.{true}
+use mathlib.Core.Bool.{Bool, true, false}
 use mathlib.Core.List.{List, [], ◌∷◌, ◌++◌, append-nil}
 use Prim.Native.Nat.{ℕ, suc, ◌+◌, ◌-◌, ◌%◌, ◌≤◌, ◌<◌}
 use native.Mathlib.Omega.{arith}
-use borrow.Author.Tests.{ltb-false, lt-ltb, le-ltb}
+use borrow.Author.Tests.{ltb-true, ltb-false, lt-ltb, le-ltb}
 use borrow.Rule.Slice.PartMut.{mid_of}
-use lib.Dec.{eqb, lit<, ltb}
+use lib.Dec.{eqb, ltb}
 use lib.ListN.{length, take, drop, replicate, length-append, length-take, length-drop}
 use lib.Seq.{take_all, take-append_seam}
-use Rattle.std.specs.Prelude.{if◌then◌else◌, Result, Ok, Err}
+use Rattle.std.specs.Prelude.{bit_xor, if◌then◌else◌, Result, Ok, Err}
 use Rattle.base.specs.Connection.{channel_of, channel_field}
 use Rattle.base.specs.Field.{Bytes, byte, within}
-use Rattle.base.specs.Outcome.{Outcome, accepted, refused, ◌>>=◌}
+use Rattle.base.specs.Outcome.{Outcome, accepted, refused}
 use Rattle.base.specs.Refusal.{refusal, said}
 use Rattle.base.specs.Written.{Writes, length_of, written}
 use Rattle.base.specs.declared.connection.Channel.{Channel}
 use Rattle.base.specs.declared.refusal.Refusal.{Refusal}
-use Rattle.base.proofs.Outcome.{apart, otherwise, when, unfaulted, Only, steps, only_steps, only_refused, inside, ranged, only_ranged}
-use Rattle.base.proofs.Rows.{NoForm, nine, Strict, strict}
+use Rattle.base.proofs.Outcome.{apart, otherwise, when, unfaulted, Only, steps, only_steps, ranged}
+use Rattle.base.proofs.Rows.{NoForm, nine, Strict}
 use Rattle.base.proofs.connection.Laws.{channel_iff, channel_small, begins_only}
-use Rattle.base.proofs.field.Laws.{so_long}
+use Rattle.base.proofs.field.Laws.{below}
 use Rattle.base.proofs.written.Laws.{placed}
 use Rattle.collector.specs.Collector.{last_index, part_length}
-use Rattle.suites.specs.GetChannelCipherSuites as suites
-use Rattle.suites.specs.GetChannelCipherSuites.{part, part_of, suites_bytes, zeros}
+use Rattle.suites.specs.GetChannelCipherSuites.{command_bytes, command_of, command_on, part, part_of, suites_bytes, zeros}
 use Rattle.suites.specs.declared.get_channel_cipher_suites.ChannelCipherSuites.{ChannelCipherSuites}
-use Rattle.suites.specs.declared.get_channel_cipher_suites.GetChannelCipherSuites.{GetChannelCipherSuites}
-use Rattle.suites.proofs.get_channel_cipher_suites.Laws.{suites_back, suites_given, suites_no_form}
-use Rattle.by_suite.specs.GetChannelCipherSuites.{Typed, answer, answer_bytes, answer_of, command, command_bytes, command_of, is_channel, list_by_suite, list_in, nibble, number_in}
-use Rattle.by_suite.specs.declared.get_channel_cipher_suites.BySuite.{BySuite}
+use Rattle.suites.specs.declared.get_channel_cipher_suites.ListCommand.{ListCommand}
+use Rattle.suites.proofs.get_channel_cipher_suites.Laws.{above, command_no_form, command_strict, suites_back, suites_given, suites_no_form}
+use Rattle.by_suite.specs.GetChannelCipherSuites.{Typed, answer, answer_bytes, answer_of, is_channel, list_by_suite, list_in, nibble, number_in}
 use Rattle.by_suite.specs.declared.get_channel_cipher_suites.ChannelSuites.{ChannelSuites}
 
 -- The request.
 
-abbrev last : List ℕ → Channel → Outcome BySuite
-last s c = within list_by_suite (list_by_suite + last_index) (byte 2 s) >>= λ last. accepted (command c (last - list_by_suite))
-
-last_byte : (s : List ℕ) (c : Channel) {k : BySuite} → last s c ≡ accepted k → (list_by_suite ≤ byte 2 s) × (byte 2 s ≤ list_by_suite + last_index) × (command c (byte 2 s - list_by_suite) ≡ k)
-last_byte s c e =
-    let (n, f, g) = steps (within list_by_suite (list_by_suite + last_index) (byte 2 s)) (λ last. accepted (command c (last - list_by_suite))) e in
-    let (low, high, same) = ranged (byte 2 s) list_by_suite (list_by_suite + last_index) (byte 2 s) 9 f in
-    (low, high, cc)
-
 -- Row 10: exactly what some command writes is read, and every other string of bytes is refused 10.
-pub by_suite_strict : Strict command_of (λ k s. command_bytes k ≡ accepted s)
-by_suite_strict =
-    strict 3 (λ s. channel_of (byte 0 s) >>= λ c. within 0 0 (byte 1 s) >>= λ payload. last s c) _
-    (λ s k b l e. let (c, ec, f) = steps (channel_of (byte 0 s)) _ e in
-    let (p, ep, g) = steps (within 0 0 (byte 1 s)) (λ payload. last s c) f in
-    let (low, high, z) = last_byte s c g in
-    let none = (ranged (byte 1 s) 0 0 (byte 1 s) 9 {b = p} ep).1 in
-    let zero : byte 1 s ≡ 0 = omega arith in
-    let i = byte 2 s - list_by_suite in
-    let same : list_by_suite + i ≡ byte 2 s = omega arith in
-    rw (← z, (channel_iff (byte 0 s) c).0 ec, inside i 0 last_index i 9 (omega arith) (omega arith), same) (ap accepted (rw zero at (so_long s 3 l))))
-    λ s k e. let (n, en, f) = steps (channel_field k.channel) _ e in
-    let (i, ei, g) = steps (within 0 last_index k.list_index) _ f in
-    let (_, small, same) = ranged k.list_index 0 last_index k.list_index 9 {b = i} ei in
-    let z : ◌≡◌ {A = List ℕ} (n ∷ 0 ∷ (list_by_suite + i) ∷ []) s = cc in
-    let low = channel_small k.channel n en in
-    let b = list_by_suite + k.list_index in
-    let back : b - list_by_suite ≡ k.list_index = omega arith in
-    rw (← z, ← same) ((omega arith, (lit< tt, (omega arith, tt))), refl {a = 3}, rw ((channel_iff n k.channel).1 en, inside b list_by_suite (list_by_suite + last_index) b 9 (omega arith) (omega arith), back))
+pub by_suite_strict : Strict (command_of list_by_suite) (λ k s. command_bytes list_by_suite k ≡ accepted s)
+by_suite_strict = command_strict list_by_suite (above list_by_suite refl refl refl)
 
 -- Refusal 9: a command whose channel no number makes, or whose index is above 0x3F, exactly then.
-pub by_suite_no_form : (k : BySuite) → command_bytes k ≡ refused 9 [] ↔ ((n : ℕ) → channel_of n ≡ accepted k.channel → k.list_index ≤ last_index → ⊥)
-by_suite_no_form k = (
-  (λ e n h small. apart (sym (rw ((channel_iff n k.channel).0 h, inside k.list_index 0 last_index k.list_index 9 (omega arith) small) at e))),
-  λ none. only_refused 9 (command_bytes k) (begins_only k.channel _ λ n. only_steps 9 (within 0 last_index k.list_index) _ (only_ranged k.list_index 0 last_index k.list_index 9) λ i. refl)
-      λ s e. let (n, f, e1) = steps (channel_field k.channel) _ e in let (i, g, e2) = steps (within 0 last_index k.list_index) _ e1 in none n ((channel_iff n k.channel).1 f) (ranged k.list_index 0 last_index k.list_index 9 g).1,
-)
+pub by_suite_no_form : (k : ListCommand list_by_suite) → command_bytes list_by_suite k ≡ refused 9 [] ↔ ((n : ℕ) → channel_of n ≡ accepted k.channel → k.list_index ≤ last_index → ⊥)
+by_suite_no_form = command_no_form list_by_suite
 
--- A channel and payload type 0: the last byte says which of the two requests it can be.
-module _ (s : List ℕ) (c : Channel) (p : ℕ) (l : eqb (length s) 3 ≡ true) (ec : channel_of (byte 0 s) ≡ accepted c) (ep : within 0 0 (byte 1 s) ≡ accepted p) where
-  bit_set : list_by_suite ≤ byte 2 s → suites.command_of s ≡ refused 10 []
-  bit_set h = rw (l, ec, ep, lt-ltb last_index (byte 2 s) (omega arith))
+-- an index without the bit is none with it
+other : (n : ℕ) → n ≤ last_index → last_index < bit_xor list_by_suite n
+other n h = ltb-true last_index (bit_xor list_by_suite n) (below 64 (λ n. ltb last_index (bit_xor list_by_suite n)) (λ n. true) refl n (omega arith))
 
-  bit_clear : byte 2 s ≤ last_index → command_of s ≡ refused 10 []
-  bit_clear h = rw (l, ec, ep, lt-ltb (byte 2 s) list_by_suite (omega arith))
+another : (n : ℕ) → bit_xor list_by_suite n ≤ last_index → last_index < n
+another n h = go (ltb last_index n) refl
+  where
+    go : (b : Bool) → ltb last_index n ≡ b → last_index < n
+    go true e = ltb-true last_index n e
+    go false e = let z = other n (ltb-false last_index n e) in absurd (omega arith)
+
+-- what a command that was read has in its last byte
+last_byte : (bit : ℕ) (s : List ℕ) (k : ListCommand bit) → command_of bit s ≡ accepted k
+    → (c : Channel) × (eqb (length s) 3 ≡ true) × (channel_of (byte 0 s) ≡ accepted c) × (within 0 0 (byte 1 s) ≡ accepted (byte 1 s)) × (bit_xor bit (byte 2 s) ≤ last_index)
+last_byte bit s k e =
+    let (l, f) = when 10 (eqb (length s) 3) e in
+    let (c, ec, g) = steps (channel_of (byte 0 s)) _ (unfaulted 10 _ f) in
+    let (p, ep, h) = steps (within 0 0 (byte 1 s)) (λ payload. command_on bit c (bit_xor bit (byte 2 s))) g in
+    let (_, _, same) = ranged (byte 1 s) 0 0 (byte 1 s) 9 {b = p} ep in
+    (c, l, ec, ep ∙ ap accepted (sym same), ltb-false last_index (bit_xor bit (byte 2 s)) (otherwise 7 (ltb last_index (bit_xor bit (byte 2 s))) h).0)
 
 -- "bit 7 of the request's last byte": no request by suite is one of the crate's, and the other way round.
-pub by_suite_bit : (s : List ℕ) → ((k : BySuite) → command_of s ≡ accepted k → suites.command_of s ≡ refused 10 []) × ((k : GetChannelCipherSuites) → suites.command_of s ≡ accepted k → command_of s ≡ refused 10 [])
+pub by_suite_bit : (s : List ℕ) → ((k : ListCommand list_by_suite) → command_of list_by_suite s ≡ accepted k → command_of 0 s ≡ refused 10 [])
+    × ((k : ListCommand 0) → command_of 0 s ≡ accepted k → command_of list_by_suite s ≡ refused 10 [])
 by_suite_bit s = (
-  (λ k e. let (l, f) = when 10 (eqb (length s) 3) e in
-      let (c, ec, g) = steps (channel_of (byte 0 s)) _ (unfaulted 10 _ f) in
-      let (p, ep, h) = steps (within 0 0 (byte 1 s)) (λ payload. last s c) g in
-      bit_set s c p l ec ep (last_byte s c h).0),
-  λ k e. let (l, f) = when 10 (eqb (length s) 3) e in
-      let (c, ec, g) = steps (channel_of (byte 0 s)) _ (unfaulted 10 _ f) in
-      let (p, ep, h) = steps (within 0 0 (byte 1 s)) (λ payload. suites.command_on c (byte 2 s)) g in
-      bit_clear s c p l ec ep (ltb-false last_index (byte 2 s) (otherwise 7 (ltb last_index (byte 2 s)) h).0),
+  (λ k e. let (c, l, ec, ep, h) = last_byte list_by_suite s k e in rw (l, ec, ep, lt-ltb last_index (byte 2 s) (another (byte 2 s) h))),
+  λ k e. let (c, l, ec, ep, h) = last_byte 0 s k e in rw (l, ec, ep, lt-ltb last_index (bit_xor list_by_suite (byte 2 s)) (other (byte 2 s) h)),
 )
 
 -- The channel's number in an answer, by its length.

@@ -10,7 +10,7 @@ use borrow.Author.Tests.{eq-eqb, ne_eqb, eqb-true, ltb-true, ltb-false, lt-ltb, 
 use lib.Dec.{eqb, lit<, ltb}
 use lib.ListN.{length, get_or, take, drop, replicate, length-take, length-drop, take-append-drop, drop_of_length-le, get_or-eq_default}
 use lib.Seq.{drop-cons, drop-append_seam, take-append_seam}
-use Rattle.std.specs.Prelude.{if◌then◌else◌, ◌&&◌, Option, Some, None}
+use Rattle.std.specs.Prelude.{bit_or, bit_xor, if◌then◌else◌, ◌&&◌, Option, Some, None}
 use Rattle.base.specs.Connection.{channel_of, channel_field}
 use Rattle.base.specs.Field.{Bytes, byte, within}
 use Rattle.base.specs.Named.{named}
@@ -19,45 +19,67 @@ use Rattle.base.specs.declared.connection.Channel.{Channel}
 use Rattle.base.proofs.Outcome.{apart, otherwise, when, Only, steps, only_steps, only_else, only_refused, inside, ranged, only_ranged}
 use Rattle.base.proofs.Rows.{NoForm, nine, Strict, strict}
 use Rattle.base.proofs.connection.Laws.{channel_iff, channel_small, begins_only}
-use Rattle.base.proofs.field.Laws.{below, so_long}
-use Rattle.base.proofs.little.Laws.{are_bytes, bytes_take}
+use Rattle.base.proofs.field.Laws.{below, so_long, up_to}
+use Rattle.base.proofs.little.Laws.{a_byte, are_bytes, bytes_take}
 use Rattle.auth.specs.Algorithms as Algorithms
 use Rattle.suites.specs.GetChannelCipherSuites.{Typed, authentication_of, column, command, command_bytes, command_of, command_on, confidentiality_of, find, integrity_of, part, row, row_of, same, suite, suite_for, suite_of, suites, suites_bytes, zeros, part_of}
 use Rattle.collector.specs.Collector.{last_index, part_length}
 use Rattle.suites.specs.declared.get_channel_cipher_suites.ChannelCipherSuites.{ChannelCipherSuites}
 use Rattle.suites.specs.declared.get_channel_cipher_suites.CipherSuite.{CipherSuite}
-use Rattle.suites.specs.declared.get_channel_cipher_suites.GetChannelCipherSuites.{GetChannelCipherSuites}
+use Rattle.suites.specs.declared.get_channel_cipher_suites.ListCommand.{ListCommand}
 use Rattle.suites.specs.declared.get_channel_cipher_suites.Row.{Row}
 
 -- The request.
 
-on_index : (c : Channel) (i : ℕ) {k : GetChannelCipherSuites} → command_on c i ≡ accepted k → (i ≤ last_index) × (command c i ≡ k)
-on_index c i e = let (p, f) = otherwise 7 (ltb last_index i) e in (ltb-false last_index i p, cc)
+-- what a bit has to be that stands above the index in one byte
+pub record Above (bit : ℕ) : Type 0 where
+  pub small : (i : ℕ) → i ≤ last_index → bit_or bit i < 256
+  pub back : (i : ℕ) → i ≤ last_index → bit_xor bit (bit_or bit i) ≡ i
+  pub forth : (n : ℕ) → n < 256 → bit_xor bit n ≤ last_index → bit_or bit (bit_xor bit n) ≡ n
 
--- Row 10: exactly what some command writes is read, and every other string of bytes is refused 10.
-pub command_strict : Strict command_of (λ k s. command_bytes k ≡ accepted s)
-command_strict =
-    strict 3 (λ s. channel_of (byte 0 s) >>= λ c. within 0 0 (byte 1 s) >>= λ payload. command_on c (byte 2 s)) _
-    (λ s k b l e. let (c, ec, f) = steps (channel_of (byte 0 s)) _ e in
-    let (p, ep, g) = steps (within 0 0 (byte 1 s)) (λ payload. command_on c (byte 2 s)) f in
-    let (small, z) = on_index c (byte 2 s) g in
-    let none = (ranged (byte 1 s) 0 0 (byte 1 s) 9 {b = p} ep).1 in
-    let zero : byte 1 s ≡ 0 = omega arith in
-    rw (← z, (channel_iff (byte 0 s) c).0 ec, inside (byte 2 s) 0 last_index (byte 2 s) 9 (omega arith) small) (ap accepted (rw zero at (so_long s 3 l))))
-    λ s k e. let (n, en, f) = steps (channel_field k.channel) _ e in
-    let (i, ei, g) = steps (within 0 last_index k.list_index) _ f in
-    let (_, small, same) = ranged k.list_index 0 last_index k.list_index 9 {b = i} ei in
-    let z : ◌≡◌ {A = List ℕ} (n ∷ 0 ∷ i ∷ []) s = cc in
-    let low = channel_small k.channel n en in
-    rw (← z, ← same) ((omega arith, (lit< tt, (omega arith, tt))), refl {a = 3}, rw ((channel_iff n k.channel).1 en, le-ltb last_index k.list_index small))
+-- by computed tests of the 64 indexes and of the 256 bytes
+pub above : (bit : ℕ) → up_to 64 (λ i. ltb (bit_or bit i) 256) ≡ up_to 64 (λ i. true) → up_to 64 (λ i. bit_xor bit (bit_or bit i)) ≡ up_to 64 (λ i. i)
+    → up_to 256 (λ n. if ltb last_index (bit_xor bit n) then n else bit_or bit (bit_xor bit n)) ≡ up_to 256 (λ n. n) → Above bit
+above bit p q r = record {
+  small = λ i h. ltb-true (bit_or bit i) 256 (below 64 (λ i. ltb (bit_or bit i) 256) (λ i. true) p i (omega arith));
+  back = λ i h. below 64 (λ i. bit_xor bit (bit_or bit i)) (λ i. i) q i (omega arith);
+  forth = λ n h l. rw (le-ltb last_index (bit_xor bit n) l) at (below 256 (λ n. if ltb last_index (bit_xor bit n) then n else bit_or bit (bit_xor bit n)) (λ n. n) r n h);
+}
 
--- Refusal 9: ".. or a command whose channel no number makes or whose index is above 0x3F", exactly then.
-pub command_no_form : (k : GetChannelCipherSuites) → command_bytes k ≡ refused 9 [] ↔ ((n : ℕ) → channel_of n ≡ accepted k.channel → k.list_index ≤ last_index → ⊥)
-command_no_form k = (
-  (λ e n h small. apart (sym (rw ((channel_iff n k.channel).0 h, inside k.list_index 0 last_index k.list_index 9 (omega arith) small) at e))),
-  λ none. only_refused 9 (command_bytes k) (begins_only k.channel _ λ n. only_steps 9 (within 0 last_index k.list_index) _ (only_ranged k.list_index 0 last_index k.list_index 9) λ i. refl)
-      λ s e. let (n, f, e1) = steps (channel_field k.channel) _ e in let (i, g, e2) = steps (within 0 last_index k.list_index) _ e1 in none n ((channel_iff n k.channel).1 f) (ranged k.list_index 0 last_index k.list_index 9 g).1,
-)
+module _ (bit : ℕ) where
+  on_index : (c : Channel) (i : ℕ) {k : ListCommand bit} → command_on bit c i ≡ accepted k → (i ≤ last_index) × (command bit c i ≡ k)
+  on_index c i e = let (p, f) = otherwise 7 (ltb last_index i) e in (ltb-false last_index i p, cc)
+
+  -- Row 10: exactly what some command writes is read, and every other string of bytes is refused 10.
+  pub command_strict : Above bit → Strict (command_of bit) (λ k s. command_bytes bit k ≡ accepted s)
+  command_strict h =
+      strict 3 (λ s. channel_of (byte 0 s) >>= λ c. within 0 0 (byte 1 s) >>= λ payload. command_on bit c (bit_xor bit (byte 2 s))) _
+      (λ s k b l e. let (c, ec, f) = steps (channel_of (byte 0 s)) _ e in
+      let (p, ep, g) = steps (within 0 0 (byte 1 s)) (λ payload. command_on bit c (bit_xor bit (byte 2 s))) f in
+      let i = bit_xor bit (byte 2 s) in
+      let (small, z) = on_index c i g in
+      let none = (ranged (byte 1 s) 0 0 (byte 1 s) 9 {b = p} ep).1 in
+      let zero : byte 1 s ≡ 0 = omega arith in
+      let same = h.forth (byte 2 s) (a_byte s b 2) small in
+      rw (← z, (channel_iff (byte 0 s) c).0 ec, inside i 0 last_index i 9 (omega arith) small, same) (ap accepted (rw zero at (so_long s 3 l))))
+      λ s k e. let (n, en, f) = steps (channel_field k.channel) _ e in
+      let (i, ei, g) = steps (within 0 last_index k.list_index) _ f in
+      let (_, small, same) = ranged k.list_index 0 last_index k.list_index 9 {b = i} ei in
+      let z : ◌≡◌ {A = List ℕ} (n ∷ 0 ∷ bit_or bit i ∷ []) s = cc in
+      let low = channel_small k.channel n en in
+      rw (← z, ← same) ((omega arith, (lit< tt, (h.small k.list_index small, tt))), refl {a = 3}, rw ((channel_iff n k.channel).1 en, h.back k.list_index small, le-ltb last_index k.list_index small))
+
+  -- Refusal 9: ".. or a command whose channel no number makes or whose index is above 0x3F", exactly then.
+  pub command_no_form : (k : ListCommand bit) → command_bytes bit k ≡ refused 9 [] ↔ ((n : ℕ) → channel_of n ≡ accepted k.channel → k.list_index ≤ last_index → ⊥)
+  command_no_form k = (
+    (λ e n h small. apart (sym (rw ((channel_iff n k.channel).0 h, inside k.list_index 0 last_index k.list_index 9 (omega arith) small) at e))),
+    λ none. only_refused 9 (command_bytes bit k) (begins_only k.channel _ λ n. only_steps 9 (within 0 last_index k.list_index) _ (only_ranged k.list_index 0 last_index k.list_index 9) λ i. refl)
+        λ s e. let (n, f, e1) = steps (channel_field k.channel) _ e in let (i, g, e2) = steps (within 0 last_index k.list_index) _ e1 in none n ((channel_iff n k.channel).1 f) (ranged k.list_index 0 last_index k.list_index 9 g).1,
+  )
+
+-- the crate's
+pub crates_strict : Strict (command_of 0) (λ k s. command_bytes 0 k ≡ accepted s)
+crates_strict = command_strict 0 (above 0 refl refl refl)
 
 -- The response.
 
