@@ -1,22 +1,24 @@
 -- Laws of hex pairs, of decimal digits, of newlines and of what is kept of a block.
 use mathlib.Core.Path.{◌≡◌, refl, sym, ◌∙◌, ap, subst}
 use mathlib.Core.Bool.{Bool, true, false}
-use mathlib.Core.List.{List, [], ◌∷◌, ◌++◌, append_assoc}
+use mathlib.Core.List.{List, [], ◌∷◌, ◌++◌, append_assoc, append-nil}
 use Prim.Native.Nat.{ℕ, zero, suc, ◌+◌, ◌-◌, ◌*◌, ◌/◌, ◌%◌, ◌≤◌, ◌<◌, max, min}
 use native.Mathlib.Omega.{arith}
-use native.Mathlib.Numerals.{add-one}
 use borrow.Author.Count.{below_more}
 use borrow.Author.Tests.{ltb-true, ltb-false, eqb-true, eqb-false, lt-ltb, le-ltb, eq-eqb, ne_eqb}
 use lib.Dec.{eqb, ltb}
-use lib.ListN.{length, get_or, take, drop, set, length-append, length-take, length-drop, length-set}
-use lib.Seq.{paste, drop-cons, drop-length, get_or-set_same, drop-set-lt, get_or-append-add, get_or-drop, length-take-le, take_all, take-take}
-use Rattle.std.specs.Prelude.{if◌then◌else◌}
+use lib.ListN.{length, get_or, take, drop, length-append, length-take, length-drop}
+use lib.Seq.{paste, length-take-le, take_all, take-take}
+use Rattle.std.specs.Prelude.{Option, Some, None, if◌then◌else◌}
+use Rattle.std.specs.Fmt.{digits_onto, digit_glyph}
+use Rattle.std.specs.Fmt.{decimal as library}
+use Rattle.std.specs.Fmt.{digits as library_digits}
+use Rattle.memchr.specs.Find.{IsFirstByte, is_byte}
 use Rattle.base.specs.Choice.{if◌from◌to◌then◌else◌}
 use Rattle.base.specs.Outcome.{Outcome, accepted, refused, ◌>>=◌, is_accepted}
 use Rattle.base.specs.Text.{digit}
 use Rattle.base.specs.Verdict.{record_of}
 use Rattle.base.proofs.Outcome.{apart, steps, Only, only_steps, only_refused}
-use Rattle.base.proofs.written.Laws.{stored}
 use Rattle.lines.specs.Lines.{Keeps, between, decimal, digit_of, digits, line_length, newline, newline_from, pair_of, pairs_of, space}
 
 no : {A : Type 0} → false ≡ true → A
@@ -318,60 +320,36 @@ one_counted n h = one_digit n h ∙ ap (λ (x : ℕ). x ∷ []) (from_zero n h)
 pub two_counted : (n : ℕ) → 10 ≤ n → n < 100 → decimal n ≡ (0x30 + n / 10) ∷ (0x30 + n % 10) ∷ []
 two_counted n p q = more_digits n p ∙ rw (one_digit (n / 10) (omega arith), from_zero (n / 10) (omega arith), from_zero (n % 10) (omega arith))
 
--- the digits that are still to come
-abbrev pub front : ℕ → List ℕ
-front n = if eqb n 0 then [] else decimal n
-
 unfoldable pub ten : ℕ → ℕ
 ten zero = 1
 ten (suc k) = 10 * ten k
 
-pub last_digit : (n : ℕ) → front (n / 10) ++ (digit (n % 10) ∷ []) ≡ decimal n
-last_digit n = go (ltb n 10) refl
-  where
-    go : (b : Bool) → ltb n 10 ≡ b → front (n / 10) ++ (digit (n % 10) ∷ []) ≡ decimal n
-    go true p =
-        let h = ltb-true n 10 p in
-        let z : n / 10 ≡ 0 = omega arith in
-        let m : n % 10 ≡ n = omega arith in
-        rw (z, m, one_digit n h)
-    go false p =
-        let h = ltb-false n 10 p in
-        simp (ne_eqb (n / 10) 0 (λ z. omega arith)) (sym (more_digits n h))
+-- the library's digits, from the last on
+glyph : (n : ℕ) → n < 10 → digit_glyph false n ≡ digit n
+glyph n h = simp (lt-ltb n 10 h) (sym (from_zero n h))
 
-pub room : (n : ℕ) → n < 18446744073709551616 → n / 10 < ten 19
+onto : (k n : ℕ) (acc : List ℕ) → n < ten (suc k) → digits_onto (suc k) 10 false n acc ≡ decimal n ++ acc
 unfolding ten
-room n h = omega arith
+onto zero n acc h =
+    let z : n / 10 ≡ 0 = omega arith in
+    let y : n % 10 ≡ n = omega arith in
+    let g = glyph n (omega arith) in
+    rw (z, y, g, one_digit n (omega arith))
+onto (suc k) n acc h = go (eqb (n / 10) 0) refl (onto k (n / 10) (digit_glyph false (n % 10) ∷ acc) (omega arith))
+  where
+    go : (b : Bool) → eqb (n / 10) 0 ≡ b → digits_onto (suc k) 10 false (n / 10) (digit_glyph false (n % 10) ∷ acc) ≡ decimal (n / 10) ++ (digit_glyph false (n % 10) ∷ acc)
+        → (if b then digit_glyph false (n % 10) ∷ acc else digits_onto (suc k) 10 false (n / 10) (digit_glyph false (n % 10) ∷ acc)) ≡ decimal n ++ acc
+    go true e more =
+        let z = eqb-true _ _ e in
+        let y : n % 10 ≡ n = omega arith in
+        rw (y, glyph n (omega arith), one_digit n (omega arith))
+    go false e more =
+        let z = eqb-false _ _ e in
+        more ∙ rw (more_digits n (omega arith), glyph (n % 10) (omega arith), append_assoc)
 
-module _ (rest at : ℕ) (h : rest < ten at) (p : 0 < rest) where
-  pub some_room : 0 < at
-  unfolding ten
-  some_room = go at h
-    where
-      go : (at : ℕ) → rest < ten at → 0 < at
-      go zero h = absurd (omega arith)
-      go (suc k) h = omega arith
-
-  pub less_room : rest / 10 < ten (at - 1)
-  unfolding ten
-  less_room = go at h
-    where
-      go : (at : ℕ) → rest < ten at → rest / 10 < ten (at - 1)
-      go zero h = absurd (omega arith)
-      go (suc k) h = let z : suc k - 1 ≡ k = omega arith in rw z (omega arith)
-
--- a digit before those that stand
-pub another : (text : List ℕ) (rest at : ℕ) (all : List ℕ) → 0 < rest → 0 < at → at ≤ length text → front rest ++ drop at text ≡ all
-    → front (rest / 10) ++ drop (at - 1) (set text (at - 1) (digit (rest % 10))) ≡ all
-another text rest at all p q l e =
-    let d = digit (rest % 10) in
-    let k : at - 1 < length text = omega arith in
-    let k' : at - 1 < length (set text (at - 1) d) = rw length-set k in
-    let s : suc (at - 1) ≡ at = omega arith in
-    let x : drop (at - 1) (set text (at - 1) d) ≡ d ∷ drop at text =
-    drop-cons (set text (at - 1) d) (at - 1) 0 k' ∙ rw (get_or-set_same text (at - 1) d 0 k, s, drop-set-lt at text (at - 1) d (omega arith)) in
-    let f : front rest ≡ decimal rest = simp (ne_eqb rest 0 (λ z. omega arith)) in
-    rw x (sym (append_assoc (front (rest / 10)) (d ∷ []) (drop at text)) ∙ ap (λ x. x ++ drop at text) (last_digit rest ∙ sym f) ∙ e)
+pub as_library : (n : ℕ) → n < 18446744073709551616 → decimal n ≡ library n
+unfolding ten library_digits
+as_library n h = sym (onto 63 n [] (omega arith) ∙ append-nil (decimal n))
 
 decimal_length : (k n : ℕ) → n < ten (suc k) → length (decimal n) ≤ suc k
 unfolding ten
@@ -401,28 +379,35 @@ decimal_digits n h = go (ltb n 10) (ltb n 100) refl refl
 
 -- Newlines.
 
-module _ (block : List ℕ) (i : ℕ) (h : i < length block) where
-  pub at_newline : get_or block i 0 ≡ newline → i ≡ newline_from block i
-  unfolding line_length
-  at_newline e = rw (le-ltb (length block) i (omega arith), drop-cons block i 0 h) (simp (eq-eqb _ _ e) (omega arith))
+abbrev No : List ℕ → ℕ → Type 0
+No l n = (k : ℕ) → k < n → get_or l k 0 ≡ newline → ⊥
 
-  pub no_newline : (get_or block i 0 ≡ newline → ⊥) → newline_from block (i + 1) ≡ newline_from block i
-  unfolding line_length
-  no_newline e = rw (le-ltb (length block) i (omega arith), le-ltb (length block) (i + 1) (omega arith), drop-cons block i 0 h) (simp (ne_eqb _ _ e, add-one i) (omega arith))
-
-pub no_more : (block : List ℕ) (i : ℕ) → i ≡ length block → i ≡ newline_from block i
+line_found : (l : List ℕ) (n : ℕ) → n < length l → get_or l n 0 ≡ newline → No l n → line_length l ≡ n
 unfolding line_length
-no_more block i e = rw (le-ltb (length block) i (omega arith), e, drop-length block) (omega arith)
+line_found [] n h e no = absurd (omega arith)
+line_found (x ∷ l) zero h e no = simp (eq-eqb _ _ e)
+line_found (x ∷ l) (suc n) h e no = let r = line_found l n (omega arith) e (λ k i. no (suc k) (omega arith)) in simp (ne_eqb _ _ (no 0 (omega arith))) (omega arith)
 
--- a further byte of sixteen
-pub one_more : (block : List ℕ) (at j found x : ℕ) → at + j < length block → x ≡ (if eqb (get_or block (at + j) 0) newline then 1 else 0)
-    → (found ≡ 0 → newline_from block at ≡ newline_from block (at + j)) → max found x ≡ 0 → newline_from block at ≡ newline_from block (at + (j + 1))
-one_more block at j found x h e before z =
-    let n : at + j + 1 ≡ at + (j + 1) = omega arith in
-    before (omega arith) ∙ sym (no_newline block (at + j) h none) ∙ ap (newline_from block) n
-  where
-    none : get_or block (at + j) 0 ≡ newline → ⊥
-    none p = let q : x ≡ 1 = e ∙ simp (eq-eqb _ _ p) in omega arith
+line_none : (l : List ℕ) → No l (length l) → line_length l ≡ length l
+unfolding line_length
+line_none [] no = refl
+line_none (x ∷ l) no = let r = line_none l (λ k i. no (suc k) (omega arith)) in simp (ne_eqb _ _ (no 0 (omega arith))) (omega arith)
+
+lent_from : (block : List ℕ) (at : ℕ) → take (length block - at) (drop at block) ≡ drop at block
+lent_from block at = let d = length-drop at block in take_all (length block - at) (drop at block) (omega arith)
+
+-- by the library's search in what is lent from a place on
+module _ (block : List ℕ) (at : ℕ) (h : at ≤ length block) {r : Option ℕ} (e : IsFirstByte (is_byte newline) (take (length block - at) (drop at block)) r) where
+  pub newline_found : {n : ℕ} → r ≡ Some n → at + n ≡ newline_from block at
+  newline_found {n} f =
+      let (b, p) : IsFirstByte (is_byte newline) (drop at block) (Some n) = rw (lent_from block at, f) at e in
+      rw (le-ltb (length block) at h, line_found (drop at block) n b.high (eqb-true _ _ p) (λ k l q. b.before k (omega arith) l (eq-eqb _ _ q)))
+
+  pub newline_none : r ≡ None → length block ≡ newline_from block at
+  newline_none f =
+      let b : IsFirstByte (is_byte newline) (drop at block) None = rw (lent_from block at, f) at e in
+      let d = length-drop at block in
+      rw (le-ltb (length block) at h, line_none (drop at block) (λ k l q. b k (omega arith) l (eq-eqb _ _ q))) (omega arith)
 
 line_within : (l : List ℕ) → line_length l ≤ length l
 unfolding line_length
@@ -440,24 +425,6 @@ newline_within block at h =
     rw (le-ltb (length block) at h) (omega arith, omega arith)
 
 -- What is kept of a block.
-
-pub spanned : (length at end most least r : ℕ) → least ≡ min end length → at ≤ least → r ≡ min most (least - at) → r ≡ min most (min (end - at) (length - at))
-spanned length at end most least r e h f =
-    let z : min (end - at) (length - at) ≡ least - at = omega arith in
-    rw (z, f)
-
--- a byte that is still to be moved is as it was
-module _ (d out : List ℕ) (at i : ℕ) (e : out ≡ paste d 0 (drop at d) i) (h : at + i < length d) where
-  to_move : get_or out (at + i) 0 ≡ get_or (drop at d) i 0
-  to_move =
-      let l = length-drop at d in
-      let k : length (take i (drop at d)) ≡ i = length-take-le i (drop at d) (omega arith) in
-      let z : at + i ≡ length (take i (drop at d)) + at = omega arith in
-      let y : 0 + i + at ≡ at + i = omega arith in
-      rw (e, z, get_or-append-add (take i (drop at d)) (drop (0 + i) d) at 0, get_or-drop (0 + i) d at 0, get_or-drop at d i 0, y)
-
-  pub moved : set out i (get_or out (at + i) 0) ≡ paste d 0 (drop at d) (i + 1)
-  moved = let l = length-drop at d in rw to_move (stored d (drop at d) out i e (omega arith) (omega arith))
 
 take_both : (l : List ℕ) (a b n : ℕ) → n ≡ min a (min b (length l)) → take n l ≡ take a (take b l)
 take_both l a b n e = go (ltb b (length l)) (ltb a b) (ltb a (length l)) refl refl refl
@@ -484,10 +451,10 @@ take_both l a b n e = go (ltb b (length l)) (ltb a b) (ltb a (length l)) refl re
         let k = ltb-false a (length l) r in
         rw (take_all b l h, take_all a l k, take_all n l (omega arith))
 
-pub kept_whole : (d out : List ℕ) (at end most n i : ℕ) → out ≡ paste d 0 (drop at d) i → i ≡ n → n ≡ min most (min (end - at) (length d - at)) → Keeps (take most (between at end d)) n d out
-kept_whole d out at end most n i e f g =
+pub kept_whole : (d out : List ℕ) (at end most n : ℕ) → out ≡ paste d 0 (drop at d) n → n ≡ min most (min (end - at) (length d - at)) → Keeps (take most (between at end d)) n d out
+kept_whole d out at end most n e g =
     let l = length-drop at d in
     let t = take_both (drop at d) most (end - at) n (omega arith) in
     let k : length (take n (drop at d)) ≡ n = length-take-le n (drop at d) (omega arith) in
     let z : 0 + n ≡ n = omega arith in
-    rw (← t) (record { count = sym k; leaves = rw (k, e, f, z) })
+    rw (← t) (record { count = sym k; leaves = rw (k, e, z) })

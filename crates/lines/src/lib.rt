@@ -11,16 +11,8 @@ ghost use Rattle.lines.specs.Lines.{Keeps, between, decimal, digit_of, newline, 
 use base::refusal::Refusal;
 use base::text::digit;
 use base::written::place;
-
-// Vector code has it as it has `|`, and the proofs read it.
-fn larger(a: u8, b: u8) -> u8
-    ensures { result ≡ max a b }
-{
-    if a < b {
-        return b;
-    }
-    a
-}
+use itoa::Buffer;
+use memchr::memchr;
 
 // 0 of a space, 1 of what is none.
 fn no_space(byte: u8) -> u8
@@ -77,14 +69,9 @@ fn are_pairs(text: &[u8]) -> bool
     if n == 0 {
         return true;
     }
-    let mut worst = larger(
-        no_space(text[0]),
-        larger(no_digit(text[1]), no_digit(text[2])),
-    );
-    let mut i: usize = 3;
-    while i < n {
-        worst = larger(worst, strays(text[i - 3], text[i]));
-        i += 1;
+    let mut worst = no_space(text[0]).max(no_digit(text[1]).max(no_digit(text[2])));
+    for i in 3..n {
+        worst = worst.max(strays(text[i - 3], text[i]));
     }
     worst == 0
 }
@@ -115,10 +102,8 @@ pub fn read_pairs(text: &[u8], out: &mut [u8]) -> Result<usize, Refusal>
     if out.len() < n {
         return Err(Refusal::NoRoom);
     }
-    let mut i: usize = 0;
-    while i < n {
+    for i in 0..n {
         out[i] = joined(text[3 * i + 1], text[3 * i + 2]);
-        i += 1;
     }
     Ok(n)
 }
@@ -128,22 +113,6 @@ pub fn hex(byte: u8, out: &mut [u8]) -> Result<usize, Refusal>
     ensures { Writes (accepted (hex2 byte)) result out.old out.new }
 {
     place(&[digit(byte / 16), digit(byte)], out)
-}
-
-// Digits from the last to the first: twenty hold any number.
-fn long_decimal(n: u64, out: &mut [u8]) -> Result<usize, Refusal>
-    ensures { Writes (accepted (decimal n)) result out.old out.new }
-{
-    let mut text = [0u8; 20];
-    text[19] = digit((n % 10) as u8);
-    let mut at: usize = 19;
-    let mut rest = n / 10;
-    while 0 < rest {
-        at -= 1;
-        text[at] = digit((rest % 10) as u8);
-        rest /= 10;
-    }
-    place(&text[at..20], out)
 }
 
 // Most numbers have one digit or two, which are counted from '0' on.
@@ -156,45 +125,8 @@ pub fn decimal(n: u64, out: &mut [u8]) -> Result<usize, Refusal>
     if n < 100 {
         return place(&[b'0' + (n / 10) as u8, b'0' + (n % 10) as u8], out);
     }
-    long_decimal(n, out)
-}
-
-fn is_newline(byte: u8) -> u8
-    ensures { result ≡ (if byte =? newline then 1 else 0) }
-{
-    if byte == b'\n' {
-        return 1;
-    }
-    0
-}
-
-// 0 where none of the sixteen bytes from a place on is a newline: vector code.
-fn in_sixteen(block: &[u8], at: usize) -> u8
-    requires { at + 16 ≤ length block.now }
-    ensures { result ≡ 0 → newline_from block.now at ≡ newline_from block.now (at + 16) }
-{
-    let mut found: u8 = 0;
-    let mut j: usize = 0;
-    while j < 16 {
-        found = larger(found, is_newline(block[at + j]));
-        j += 1;
-    }
-    found
-}
-
-// Past the sixteens without a newline.
-fn skipped(block: &[u8], at: usize) -> usize
-    requires { at ≤ length block.now }
-    ensures { (result ≤ length block.now) × (newline_from block.now result ≡ newline_from block.now at) }
-{
-    let mut i = at;
-    while 16 <= block.len() - i {
-        if in_sixteen(block, i) != 0 {
-            return i;
-        }
-        i += 16;
-    }
-    i
+    let mut buffer = Buffer::new();
+    place(buffer.format(n).as_bytes(), out)
 }
 
 // Where the next newline stands from a place on, or the end.
@@ -204,31 +136,10 @@ pub fn newline_from(block: &[u8], at: usize) -> usize
     if block.len() < at {
         return block.len();
     }
-    let mut i = skipped(block, at);
-    while i < block.len() {
-        if block[i] == b'\n' {
-            return i;
-        }
-        i += 1;
+    match memchr(b'\n', &block[at..]) {
+        Some(n) => at + n,
+        None => block.len(),
     }
-    i
-}
-
-fn least(a: usize, b: usize) -> usize
-    ensures { result ≡ min a b }
-{
-    if a < b { a } else { b }
-}
-
-// How many bytes a block of a length has from a place up to another, and at most so many.
-fn span(length: usize, at: usize, end: usize, most: usize) -> usize
-    ensures { result ≡ min most (min (end - at) («length» - at)) }
-{
-    let end = least(end, length);
-    if end < at {
-        return 0;
-    }
-    least(most, end - at)
 }
 
 // What a block has from a place up to another, at most so many bytes of it, moves to the block's start: the rest of a
@@ -236,12 +147,10 @@ fn span(length: usize, at: usize, end: usize, most: usize) -> usize
 pub fn kept(block: &mut [u8], at: usize, end: usize, most: usize) -> usize
     ensures { Keeps (take most (between at end block.old)) result block.old block.new }
 {
-    let n = span(block.len(), at, end, most);
-    let mut i: usize = 0;
-    while i < n {
-        let byte = block[at + i];
-        block[i] = byte;
-        i += 1;
+    let n = most.min(end.min(block.len()).saturating_sub(at));
+    if n == 0 {
+        return 0;
     }
+    block.copy_within(at..at + n, 0);
     n
 }

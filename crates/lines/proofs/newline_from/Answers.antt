@@ -1,13 +1,8 @@
-use mathlib.Core.Path.{◌∙◌}
-use native.Mathlib.Omega.{arith}
-use Rattle.lines.proofs.Laws.{at_newline, no_newline, no_more}
+use Rattle.lines.proofs.Laws.{newline_found, newline_none}
 use Rattle.lines.proofs.newline_from.Goals as goal
 
-pub returns-then-block-i-eq10 : goal.returns-then-block-i-eq10
-returns-then-block-i-eq10 c = at_newline c.args.block.now c.loop-i.i (omega arith) c.if-block-i-eq10.true ∙ c.loop-i.invariant.1
+pub returns-in-Some : goal.returns-in-Some
+returns-in-Some c = newline_found c.args.block.now c.args.at c.if-block-at.false c.memchr.ensures c.in-Some.is
 
-pub loop-i-preserved : goal.loop-i-preserved
-loop-i-preserved c = (omega arith, no_newline c.args.block.now c.loop-i.i (omega arith) c.if-block-i-eq10.false ∙ c.loop-i.invariant.1)
-
-pub returns : goal.returns
-returns c = no_more c.args.block.now c.loop-i.i (omega arith) ∙ c.loop-i.invariant.1
+pub returns-in-None : goal.returns-in-None
+returns-in-None c = newline_none c.args.block.now c.args.at c.if-block-at.false c.memchr.ensures c.in-None.is
