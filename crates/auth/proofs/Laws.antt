@@ -1,11 +1,13 @@
 -- Laws of authentication types and privilege levels.
-use Rattle.std.specs.Prelude.{◌≡◌, ℕ, ◌<◌, ◌≤◌, Bool, true, false, ltb, ◌↔◌, [], ◌∷◌, get_or, if◌then◌else◌, Option, Some, None}
+use Rattle.std.specs.Prelude.{◌≡◌, ℕ, ◌<◌, ◌≤◌, Bool, true, false, ◌↔◌, [], ◌∷◌, get_or, if◌then◌else◌, Option, Some, None}
 use Rattle.std.specs.declared.cmp.Ordering.{Ordering}
 use Rattle.std.specs.declared.cmp.Ordering.TheVariants.{Less, Equal, Greater}
 use mathlib.Core.Path.{refl, sym, ◌∙◌, ap}
 use native.Mathlib.Omega.{arith}
-use borrow.Author.Tests.{ltb-true, ltb-false, lt-ltb, le-ltb}
 use lib.Dec.{lit<, lit≤}
+use Rattle.std.specs.Cmp.{nat_cmp_is}
+use Rattle.std.proofs.lemmas.Cmp.{ranked}
+use Rattle.std.proofs.lemmas.Option.{none-some}
 use Rattle.base.specs.Choice.{◌=?◌}
 use Rattle.base.specs.Field.{bits}
 use Rattle.base.specs.Named.{named}
@@ -70,12 +72,7 @@ abbrev pub ◌weaker◌ : AuthType → AuthType → Type 0
 a weaker b = strength a b ≡ Less
 
 less : (a b : AuthType) → a weaker b ↔ rank a < rank b
-less a b = (go (ltb (rank a) (rank b)) (ltb (rank b) (rank a)) refl, λ h. simp (lt-ltb (rank a) (rank b) h))
-  where
-    go : (x y : Bool) → ltb (rank a) (rank b) ≡ x → (if x then Less else if y then Greater else Equal) ≡ Less → rank a < rank b
-    go true y p e = ltb-true (rank a) (rank b) p
-    go false true p e = let z : ◌≡◌ {A = ℕ} 0 1 = cc in absurd (omega arith)
-    go false false p e = let z : ◌≡◌ {A = ℕ} 0 1 = cc in absurd (omega arith)
+less a b = (λ e. ranked (rank a) (rank b) Less (sym e), λ h. sym (nat_cmp_is (rank a) (rank b) Less h))
 
 pub weaker_irreflexive : (a : AuthType) → a weaker a → ⊥
 weaker_irreflexive a e = let h = (less a a).0 e in omega arith
@@ -89,35 +86,15 @@ weakest_first = (refl, refl, refl)
 
 -- each is as strong as itself alone
 pub equal_iff : (a b : AuthType) → strength a b ≡ Equal ↔ a ≡ b
-equal_iff a b = (λ e. same a b e, λ e. rw e (itself b))
+equal_iff a b = (λ e. let same = ranked (rank a) (rank b) Equal (sym e) in cc (own a, own b), λ e. rw e (sym (nat_cmp_is (rank b) (rank b) Equal refl)))
   where
-    itself : (a : AuthType) → strength a a ≡ Equal
-    itself a = simp (le-ltb (rank a) (rank a) (omega arith))
-
     -- what a rank names
-    ranked : (a : AuthType) → get_or (Kind.None ∷ Kind.Key ∷ Kind.MD2 ∷ []) (rank a) Kind.MD5 ≡ a
-    ranked = elim [ Kind.None ↦ refl | Kind.MD2 ↦ refl | Kind.MD5 ↦ refl | Kind.Key ↦ refl ]
-
-    same : (a b : AuthType) → strength a b ≡ Equal → a ≡ b
-    same a b e = go (ltb (rank a) (rank b)) (ltb (rank b) (rank a)) refl refl e
-      where
-        go : (x y : Bool) → ltb (rank a) (rank b) ≡ x → ltb (rank b) (rank a) ≡ y → (if x then Less else if y then Greater else Equal) ≡ Equal → a ≡ b
-        go true y p q e = let z : ◌≡◌ {A = ℕ} 0 1 = cc in absurd (omega arith)
-        go false true p q e = let z : ◌≡◌ {A = ℕ} 0 1 = cc in absurd (omega arith)
-        go false false p q e =
-            let l = ltb-false (rank a) (rank b) p in
-            let m = ltb-false (rank b) (rank a) q in
-            let z : rank a ≡ rank b = omega arith in
-            cc (ranked a, ranked b)
+    own : (a : AuthType) → get_or (Kind.None ∷ Kind.Key ∷ Kind.MD2 ∷ []) (rank a) Kind.MD5 ≡ a
+    own = elim [ Kind.None ↦ refl | Kind.MD2 ↦ refl | Kind.MD5 ↦ refl | Kind.Key ↦ refl ]
 
 -- the other way round
 pub greater_iff : (a b : AuthType) → strength a b ≡ Greater ↔ b weaker a
-greater_iff a b = (go (ltb (rank a) (rank b)) (ltb (rank b) (rank a)) refl, λ e. let h = (less b a).0 e in simp (le-ltb (rank a) (rank b) (omega arith), lt-ltb (rank b) (rank a) h))
-  where
-    go : (x y : Bool) → ltb (rank b) (rank a) ≡ y → (if x then Less else if y then Greater else Equal) ≡ Greater → b weaker a
-    go true y q e = let z : ◌≡◌ {A = ℕ} 0 1 = cc in absurd (omega arith)
-    go false true q e = (less b a).1 (ltb-true (rank b) (rank a) q)
-    go false false q e = let z : ◌≡◌ {A = ℕ} 0 1 = cc in absurd (omega arith)
+greater_iff a b = (λ e. (less b a).1 (ranked (rank a) (rank b) Greater (sym e)), λ e. sym (nat_cmp_is (rank a) (rank b) Greater ((less b a).0 e)))
 
 -- The strongest of those that are offered.
 
@@ -135,25 +112,22 @@ Strongest key md5 md2 plain a = (offered key md5 md2 plain a ≡ true) × ((b : 
 unlike : false ≡ true → ⊥
 unlike e = let z : ◌≡◌ {A = ℕ} 0 1 = cc in omega arith
 
-some_not : {a : AuthType} → Some a ≡ None → ⊥
-some_not e = let z : ◌≡◌ {A = ℕ} 0 1 = cc in omega arith
-
 highest : (key md5 md2 plain : Bool) (a : AuthType) → best_of key md5 md2 plain ≡ Some a → (offered key md5 md2 plain a ≡ true) × ((b : AuthType) → offered key md5 md2 plain b ≡ true → rank b ≤ rank a)
 highest key true md2 plain a e = let z : Kind.MD5 ≡ a = cc in rw (← z) (refl, elim [ Kind.None ↦ λ o. lit≤ tt | Kind.MD2 ↦ λ o. lit≤ tt | Kind.MD5 ↦ λ o. lit≤ tt | Kind.Key ↦ λ o. lit≤ tt ])
 highest key false true plain a e = let z : Kind.MD2 ≡ a = cc in rw (← z) (refl, elim [ Kind.None ↦ λ o. lit≤ tt | Kind.MD2 ↦ λ o. lit≤ tt | Kind.MD5 ↦ λ o. absurd (unlike o) | Kind.Key ↦ λ o. lit≤ tt ])
 highest true false false plain a e = let z : Kind.Key ≡ a = cc in rw (← z) (refl, elim [ Kind.None ↦ λ o. lit≤ tt | Kind.MD2 ↦ λ o. absurd (unlike o) | Kind.MD5 ↦ λ o. absurd (unlike o) | Kind.Key ↦ λ o. lit≤ tt ])
 highest false false false true a e = let z : Kind.None ≡ a = cc in rw (← z) (refl, elim [ Kind.None ↦ λ o. lit≤ tt | Kind.MD2 ↦ λ o. absurd (unlike o) | Kind.MD5 ↦ λ o. absurd (unlike o) | Kind.Key ↦ λ o. absurd (unlike o) ])
-highest false false false false a e = absurd (some_not (sym e))
+highest false false false false a e = absurd (none-some a e)
 
 -- There is none exactly where none is offered: "no type exactly when all four bits are clear".
 pub best_none : (key md5 md2 plain : Bool) → best_of key md5 md2 plain ≡ None ↔ ((a : AuthType) → offered key md5 md2 plain a ≡ false)
 best_none key md5 md2 plain = (go key md5 md2 plain, λ h. simp (h Kind.MD5, h Kind.MD2, h Kind.Key, h Kind.None))
   where
     go : (key md5 md2 plain : Bool) → best_of key md5 md2 plain ≡ None → (a : AuthType) → offered key md5 md2 plain a ≡ false
-    go key true md2 plain e = absurd (some_not e)
-    go key false true plain e = absurd (some_not e)
-    go true false false plain e = absurd (some_not e)
-    go false false false true e = absurd (some_not e)
+    go key true md2 plain e = absurd (none-some _ (sym e))
+    go key false true plain e = absurd (none-some _ (sym e))
+    go true false false plain e = absurd (none-some _ (sym e))
+    go false false false true e = absurd (none-some _ (sym e))
     go false false false false e = elim [ Kind.None ↦ refl | Kind.MD2 ↦ refl | Kind.MD5 ↦ refl | Kind.Key ↦ refl ]
 
 -- The best is exactly the strongest that is offered.
@@ -165,12 +139,12 @@ best_iff key md5 md2 plain a = (is, λ s. go (best_of key md5 md2 plain) refl s)
 
     go : (o : Option AuthType) → best_of key md5 md2 plain ≡ o → Strongest key md5 md2 plain a → o ≡ Some a
     go None p s = absurd (unlike (sym ((best_none key md5 md2 plain).0 p a) ∙ s.0))
-    go (Some b) p s =
-        let (o, top) = highest key md5 md2 plain b p in
-        let h = top a s.0 in
-        let l : ltb (rank a) (rank b) ≡ false = no_less (ltb (rank a) (rank b)) λ e. s.1 b o ((less a b).1 (ltb-true (rank a) (rank b) e)) in
-        ap Some ((equal_iff b a).0 (simp (le-ltb (rank b) (rank a) h, l)))
+    go (Some b) p s = ap Some (same (strength a b) refl)
       where
-        no_less : (x : Bool) → (x ≡ true → ⊥) → x ≡ false
-        no_less true h = absurd (h refl)
-        no_less false h = refl
+        same : (r : Ordering) → strength a b ≡ r → b ≡ a
+        same Less e = absurd (s.1 b (highest key md5 md2 plain b p).0 e)
+        same Equal e = sym ((equal_iff a b).0 e)
+        same Greater e =
+            let g = (less b a).0 ((greater_iff a b).0 e) in
+            let h = (highest key md5 md2 plain b p).1 a s.0 in
+            absurd (omega arith)

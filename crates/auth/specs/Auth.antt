@@ -1,8 +1,7 @@
 -- Authentication types, their strength, and privilege levels. Document 01: "AuthType 0, 1, 2, 4; strength order; PrivilegeLevel 1 to 5 from the low nibble".
 use Rattle.std.specs.Prelude.{ℕ, Bool, List, [], ◌∷◌, if◌then◌else◌, Option, Some, None}
+use Rattle.std.specs.Ordering.{nat_cmp}
 use Rattle.std.specs.declared.cmp.Ordering.{Ordering}
-use Rattle.std.specs.declared.cmp.Ordering.TheVariants.{Less, Equal, Greater}
-use Rattle.base.specs.Choice.{◌<?◌}
 use Rattle.base.specs.Field.{bits}
 use Rattle.base.specs.Named.{named}
 use Rattle.base.specs.Text.{ascii}
@@ -42,7 +41,7 @@ rank Kind.MD5 = 3
 
 -- "strength order": by ranks
 abbrev pub strength : AuthType → AuthType → Ordering
-strength a b = if rank a <? rank b then Less else if rank b <? rank a then Greater else Equal
+strength a b = nat_cmp (rank a) (rank b)
 
 -- of the types that are offered, Key, MD5, MD2 and None, "the first advertised of MD5, MD2, Key, None"
 abbrev pub best_of : Bool → Bool → Bool → Bool → Option AuthType

@@ -1,5 +1,5 @@
 -- Get Channel Authentication Capabilities. Document 01, "Capabilities"; IPMI 2.0, Table 22-15.
-use Rattle.std.specs.Prelude.{ℕ, ◌+◌, ◌-◌, Bool, true, false, not, List, [], ◌∷◌, length, if◌then◌else◌, Option}
+use Rattle.std.specs.Prelude.{ℕ, ◌+◌, ◌-◌, true, false, not, List, [], ◌∷◌, length, if◌then◌else◌, Option}
 use Rattle.auth.specs.Auth.{privileges, privilege_value, best_of}
 use Rattle.base.specs.Choice.{◌<?◌}
 use Rattle.base.specs.Connection.{channel_of, channel_field}
@@ -53,37 +53,43 @@ pub record Typed (c : ChannelAuthenticationCapabilities) : Type 0 where
   pub id : Array 3 c.oem_id
   pub rest : Bytes (c.channel_number ∷ c.oem_auxiliary_data ∷ [])
 
--- bytes 0 to 2, and what stands elsewhere by bit 7 of byte 1; "bit 4 set means per-message authentication is NOT enabled, bit 3 the same for user level"
-abbrev pub capabilities_from : ℕ → ℕ → ℕ → Bool → Bool → Bool → List ℕ → ℕ → ChannelAuthenticationCapabilities
-capabilities_from channel types status kg v2 v15 id auxiliary =
-    record {
-      channel_number = channel;
-      oem_proprietary = flag 5 types;
-      key = flag 4 types;
-      md5 = flag 2 types;
-      md2 = flag 1 types;
-      none = flag 0 types;
-      kg_status = kg;
-      per_message_authentication_enabled = not (flag 4 status);
-      user_level_authentication_enabled = not (flag 3 status);
-      non_null_usernames_enabled = flag 2 status;
-      null_usernames_enabled = flag 1 status;
-      anonymous_login_enabled = flag 0 status;
-      ipmi2_connections_supported = v2;
-      ipmi15_connections_supported = v15;
-      oem_id = id;
-      oem_auxiliary_data = auxiliary;
-    }
-
--- "Extended: byte 2 bit 5 is KG status, byte 3 bits 1 and 0 are v2.0 and v1.5 support, bytes 4 to 6 OEM id, 7 auxiliary"
-abbrev pub extended_of : List ℕ → Outcome ChannelAuthenticationCapabilities
-extended_of r =
-    if length r <? 8 then refused 1 [] else
-    accepted (capabilities_from (byte 0 r) (byte 1 r) (byte 2 r) (flag 5 (byte 2 r)) (flag 1 (byte 3 r)) (flag 0 (byte 3 r)) (byte 4 r ∷ byte 5 r ∷ byte 6 r ∷ []) (byte 7 r))
-
+-- where bit 7 of byte 1 is clear: "bit 4 set means per-message authentication is NOT enabled, bit 3 the same for user level";
 -- "Otherwise those three flags are false, id is bytes 3 to 5, auxiliary byte 6", one byte before the standard's place
 abbrev pub plain : List ℕ → ChannelAuthenticationCapabilities
-plain r = capabilities_from (byte 0 r) (byte 1 r) (byte 2 r) false false false (byte 3 r ∷ byte 4 r ∷ byte 5 r ∷ []) (byte 6 r)
+plain r =
+    record {
+      channel_number = byte 0 r;
+      oem_proprietary = flag 5 (byte 1 r);
+      key = flag 4 (byte 1 r);
+      md5 = flag 2 (byte 1 r);
+      md2 = flag 1 (byte 1 r);
+      none = flag 0 (byte 1 r);
+      kg_status = false;
+      per_message_authentication_enabled = not (flag 4 (byte 2 r));
+      user_level_authentication_enabled = not (flag 3 (byte 2 r));
+      non_null_usernames_enabled = flag 2 (byte 2 r);
+      null_usernames_enabled = flag 1 (byte 2 r);
+      anonymous_login_enabled = flag 0 (byte 2 r);
+      ipmi2_connections_supported = false;
+      ipmi15_connections_supported = false;
+      oem_id = byte 3 r ∷ byte 4 r ∷ byte 5 r ∷ [];
+      oem_auxiliary_data = byte 6 r;
+    }
+
+-- "Extended: byte 2 bit 5 is KG status, byte 3 bits 1 and 0 are v2.0 and v1.5 support, bytes 4 to 6 OEM id, 7 auxiliary"; the rest as above
+abbrev pub extended : List ℕ → ChannelAuthenticationCapabilities
+extended r =
+    record (plain r) {
+      kg_status = flag 5 (byte 2 r);
+      ipmi2_connections_supported = flag 1 (byte 3 r);
+      ipmi15_connections_supported = flag 0 (byte 3 r);
+      oem_id = byte 4 r ∷ byte 5 r ∷ byte 6 r ∷ [];
+      oem_auxiliary_data = byte 7 r;
+    }
+
+-- the extended form has a byte more
+abbrev pub extended_of : List ℕ → Outcome ChannelAuthenticationCapabilities
+extended_of r = if length r <? 8 then refused 1 [] else accepted (extended r)
 
 -- "response at least 7, or 8" where bit 7 of byte 1 is set
 abbrev pub capabilities_of : List ℕ → Outcome ChannelAuthenticationCapabilities

@@ -1,6 +1,6 @@
 // Get Channel Authentication Capabilities, App 38h: IPMI 2.0, Table 22-15; the Rust's get_channel_authentication_capabilities.rs.
-ghost use Rattle.std.specs.Prelude.{◌≡◌};
-ghost use Rattle.auth.specs.GetChannelAuthenticationCapabilities.{Typed, best_auth, capabilities_bytes, capabilities_from, capabilities_of, command, command_bytes, command_for, command_of, extended_of};
+ghost use Rattle.std.specs.Prelude.{◌≡◌, ◌≤◌, length};
+ghost use Rattle.auth.specs.GetChannelAuthenticationCapabilities.{Typed, best_auth, capabilities_bytes, capabilities_of, command, command_bytes, command_for, command_of, extended_of, plain};
 ghost use Rattle.base.specs.Outcome.{accepted};
 ghost use Rattle.base.specs.Refusal.{said};
 ghost use Rattle.base.specs.Written.{Writes};
@@ -91,72 +91,60 @@ impl ChannelAuthenticationCapabilities {
         ensures { Typed self }
     {}
 
-    // Bits 4 and 3 of the status say what is NOT enabled.
-    fn from_bytes(
-        channel_number: u8,
-        types: u8,
-        status: u8,
-        kg_status: bool,
-        v2: bool,
-        v15: bool,
-        oem_id: [u8; 3],
-        auxiliary: u8,
-    ) -> Self
-        ensures { result ≡ capabilities_from channel_number types status kg_status v2 v15 oem_id auxiliary }
+    // The form without bit 7 of byte 1. Bits 4 and 3 of the status say what is NOT enabled.
+    fn plain(response: &[u8]) -> Self
+        requires { 7 ≤ length response.now }
+        ensures { result ≡ plain response.now }
     {
+        let types = response[1];
+        let status = response[2];
         Self {
-            channel_number,
+            channel_number: response[0],
             oem_proprietary: flag(types, 5),
             key: flag(types, 4),
             md5: flag(types, 2),
             md2: flag(types, 1),
             none: flag(types, 0),
-            kg_status,
+            kg_status: false,
             per_message_authentication_enabled: !flag(status, 4),
             user_level_authentication_enabled: !flag(status, 3),
             non_null_usernames_enabled: flag(status, 2),
             null_usernames_enabled: flag(status, 1),
             anonymous_login_enabled: flag(status, 0),
-            ipmi2_connections_supported: v2,
-            ipmi15_connections_supported: v15,
-            oem_id,
-            oem_auxiliary_data: auxiliary,
+            ipmi2_connections_supported: false,
+            ipmi15_connections_supported: false,
+            oem_id: [response[3], response[4], response[5]],
+            oem_auxiliary_data: response[6],
         }
     }
 
+    // The form with it: the OEM fields stand one byte later.
     fn extended(response: &[u8]) -> Result<Self, Refusal>
         ensures { said result ≡ extended_of response.now }
     {
         if response.len() < 8 {
             return Err(Refusal::NotEnoughData);
         }
-        let channel = response[0];
-        let types = response[1];
-        let status = response[2];
-        let kg = flag(status, 5);
-        let v2 = flag(response[3], 1);
-        let v15 = flag(response[3], 0);
-        let id = [response[4], response[5], response[6]];
-        let aux = response[7];
-        Ok(Self::from_bytes(channel, types, status, kg, v2, v15, id, aux))
+        Ok(Self {
+            kg_status: flag(response[2], 5),
+            ipmi2_connections_supported: flag(response[3], 1),
+            ipmi15_connections_supported: flag(response[3], 0),
+            oem_id: [response[4], response[5], response[6]],
+            oem_auxiliary_data: response[7],
+            ..Self::plain(response)
+        })
     }
 
-    // Without bit 7 of byte 1 the OEM fields stand one byte earlier than with it.
     pub fn parse(response: &[u8]) -> Result<Self, Refusal>
         ensures { said result ≡ capabilities_of response.now }
     {
         if response.len() < 7 {
             return Err(Refusal::NotEnoughData);
         }
-        let channel = response[0];
-        let types = response[1];
-        let status = response[2];
-        if flag(types, 7) {
+        if flag(response[1], 7) {
             return Self::extended(response);
         }
-        let id = [response[3], response[4], response[5]];
-        let aux = response[6];
-        Ok(Self::from_bytes(channel, types, status, false, false, false, id, aux))
+        Ok(Self::plain(response))
     }
 
     pub fn best_auth(self) -> Option<AuthType>

@@ -1,10 +1,10 @@
 -- Laws of Get Channel Authentication Capabilities.
-use Rattle.std.specs.Prelude.{◌≡◌, ℕ, ◌+◌, ◌-◌, ◌≤◌, Bool, true, false, not, ltb, ◌↔◌, List, [], ◌∷◌, length, None}
+use Rattle.std.specs.Prelude.{◌≡◌, ℕ, ◌+◌, ◌-◌, ◌≤◌, Bool, true, false, not, ltb, ◌↔◌, List, [], ◌∷◌, None}
 use mathlib.Core.Path.{refl, ap, ◌∙◌}
 use native.Mathlib.Omega.{arith}
 use borrow.Author.Tests.{ltb-false, le-ltb}
 use Rattle.auth.specs.Auth.{privileges, privilege_value}
-use Rattle.auth.specs.GetChannelAuthenticationCapabilities.{Typed, asked_channel, asked_level, best_auth, capabilities_bytes, capabilities_from, capabilities_of, command, command_bytes, command_of, extended_of}
+use Rattle.auth.specs.GetChannelAuthenticationCapabilities.{Typed, asked_channel, asked_level, best_auth, capabilities_bytes, capabilities_of, command, command_bytes, command_of}
 use Rattle.auth.specs.declared.AuthType.TheVariants as Kind
 use Rattle.auth.specs.declared.PrivilegeLevel.{PrivilegeLevel}
 use Rattle.auth.specs.declared.get_channel_authentication_capabilities.ChannelAuthenticationCapabilities.{ChannelAuthenticationCapabilities}
@@ -55,16 +55,6 @@ pub command_no_form : (k : GetChannelAuthenticationCapabilities) → command_byt
 command_no_form k = no_channel_form k.channel_number (λ n. (0x80 + n) ∷ privilege_value k.privilege_level ∷ [])
 
 -- The response.
-
--- the two forms that are read
-module _ (s : List ℕ) (c : ChannelAuthenticationCapabilities) (id : List ℕ) where
-  pub is_plain : 7 ≤ length s → flag 7 (byte 1 s) ≡ false
-      → c ≡ capabilities_from (byte 0 s) (byte 1 s) (byte 2 s) false false false id (byte 6 s) → id ≡ byte 3 s ∷ byte 4 s ∷ byte 5 s ∷ [] → capabilities_of s ≡ accepted c
-  is_plain h x e i = rw (le-ltb (length s) 7 h, x, e, i)
-
-  pub is_extended : (kg v2 v15 : Bool) → 8 ≤ length s → kg ≡ flag 5 (byte 2 s) → v2 ≡ flag 1 (byte 3 s) → v15 ≡ flag 0 (byte 3 s)
-      → c ≡ capabilities_from (byte 0 s) (byte 1 s) (byte 2 s) kg v2 v15 id (byte 7 s) → id ≡ byte 4 s ∷ byte 5 s ∷ byte 6 s ∷ [] → extended_of s ≡ accepted c
-  is_extended kg v2 v15 h k f g e i = rw (le-ltb (length s) 8 h, e, k, f, g, i)
 
 twice : (b : Bool) → not (not b) ≡ b
 twice true = refl
