@@ -76,13 +76,11 @@ impl GetChannelAccess {
     pub fn read(request: &[u8]) -> Result<Self, Refusal>
         ensures { said result ≡ command_of request.now }
     {
-        if request.len() != 2 {
-            return Err(Refusal::NotARequest);
-        }
-        let Ok(channel) = Channel::new(request[0]) else {
+        let [number, kind] = *request else {
             return Err(Refusal::NotARequest);
         };
-        match request[1] {
+        let channel = Channel::new(number).map_err(|_| Refusal::NotARequest)?;
+        match kind {
             0x40 => Ok(Self::non_volatile(channel)),
             0x80 => Ok(Self::volatile(channel)),
             _ => Err(Refusal::NotARequest),
@@ -104,16 +102,15 @@ impl ChannelAccess {
     pub fn parse(response: &[u8]) -> Result<Self, Refusal>
         ensures { said result ≡ access_of response.now }
     {
-        if response.len() < 2 {
+        let [first, second, ..] = *response else {
             return Err(Refusal::NotEnoughData);
-        }
-        let first = response[0];
+        };
         Ok(ChannelAccess {
             access_mode: ChannelAccessMode::from(bits(first, 0, 3)),
             alerting_disabled: flag(first, 5),
             per_msg_auth_disabled: flag(first, 4),
             user_level_auth_disabled: flag(first, 3),
-            privilege_level_limit: ChannelPrivilegeLevel::from(bits(response[1], 0, 4)),
+            privilege_level_limit: ChannelPrivilegeLevel::from(bits(second, 0, 4)),
         })
     }
 

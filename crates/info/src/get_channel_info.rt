@@ -8,7 +8,7 @@ use base::connection::Channel;
 use base::field::{bits, within};
 use base::little::{bytes, number};
 use base::refusal::Refusal;
-use base::written::{join, place};
+use base::written::place;
 use media::get_channel_info::{ChannelMediumType, ChannelProtocolType, ChannelSessionSupport};
 
 #[derive(Drop)]
@@ -43,12 +43,10 @@ impl GetChannelInfo {
     pub fn read(request: &[u8]) -> Result<Self, Refusal>
         ensures { said result ≡ command_of request.now }
     {
-        if request.len() != 1 {
-            return Err(Refusal::NotARequest);
-        }
-        let Ok(channel) = Channel::new(request[0]) else {
+        let [number] = *request else {
             return Err(Refusal::NotARequest);
         };
+        let channel = Channel::new(number).map_err(|_| Refusal::NotARequest)?;
         Ok(Self::new(channel))
     }
 }
@@ -83,15 +81,13 @@ impl ChannelInfo {
         if response.len() < 9 {
             return Err(Refusal::NotEnoughData);
         }
-        let Ok(channel) = Channel::new(bits(response[0], 0, 4)) else {
-            return Err(Refusal::NotEnoughData);
-        };
+        let channel = Channel::new(bits(response[0], 0, 4)).map_err(|_| Refusal::NotEnoughData)?;
         let sessions = response[3];
         Ok(ChannelInfo {
             channel,
-            medium_type: ChannelMediumType::from(bits(response[1], 0, 7)),
-            protocol_type: ChannelProtocolType::from(bits(response[2], 0, 5)),
-            session_support: ChannelSessionSupport::from(bits(sessions, 6, 2)),
+            medium_type: bits(response[1], 0, 7).into(),
+            protocol_type: bits(response[2], 0, 5).into(),
+            session_support: bits(sessions, 6, 2).into(),
             active_sessions: bits(sessions, 0, 6),
             vendor_id: number([response[4], response[5], response[6], 0]),
             aux_info: AuxChannelInfo {
@@ -114,11 +110,12 @@ impl ChannelInfo {
         if 0xFF_FFFF < vendor {
             return Err(Refusal::NoForm);
         }
-        let aux = self.aux_info;
+        let [low, middle, high] = bytes::<3>(vendor as u64);
+        let AuxChannelInfo { byte1, byte2 } = self.aux_info;
         let sessions = session * 64 + active;
-        let id = bytes::<3>(vendor as u64);
-        let head = [channel, medium, protocol, sessions];
-        let rest = [id[0], id[1], id[2], aux.byte1, aux.byte2];
-        join(&head, &rest, out)
+        let response = [
+            channel, medium, protocol, sessions, low, middle, high, byte1, byte2,
+        ];
+        place(&response, out)
     }
 }

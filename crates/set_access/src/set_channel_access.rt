@@ -147,24 +147,16 @@ impl SetChannelAccess {
     pub fn read(request: &[u8]) -> Result<Self, Refusal>
         ensures { said result ≡ command_of request.now }
     {
-        if request.len() != 3 {
+        let [number, mode, limit] = *request else {
+            return Err(Refusal::NotARequest);
+        };
+        if bits(limit, 4, 2) != 0 {
             return Err(Refusal::NotARequest);
         }
-        let Ok(channel) = Channel::new(request[0]) else {
-            return Err(Refusal::NotARequest);
-        };
-        let Ok(mode_pair) = AccessPair::of(request[1]) else {
-            return Err(Refusal::NotARequest);
-        };
-        let Ok(limit_pair) = AccessPair::of(request[2]) else {
-            return Err(Refusal::NotARequest);
-        };
-        if bits(request[2], 4, 2) != 0 {
-            return Err(Refusal::NotARequest);
-        }
-        let Ok(access) = ChannelAccess::parse(&request[1..]) else {
-            return Err(Refusal::NotARequest);
-        };
+        let channel = Channel::new(number).map_err(|_| Refusal::NotARequest)?;
+        let mode_pair = AccessPair::of(mode).map_err(|_| Refusal::NotARequest)?;
+        let limit_pair = AccessPair::of(limit).map_err(|_| Refusal::NotARequest)?;
+        let access = ChannelAccess::parse(&[mode, limit]).map_err(|_| Refusal::NotARequest)?;
         Ok(Self {
             channel,
             mode_pair,

@@ -3,11 +3,10 @@ use mathlib.Core.Logic.{◌↔◌}
 use mathlib.Core.Path.{◌≡◌, refl, sym, ◌∙◌, ap}
 use mathlib.Core.Bool.{Bool, true, false}
 use mathlib.Core.List.{List, [], ◌∷◌}
-use Prim.Native.Nat.{ℕ, ◌+◌, ◌*◌, ◌%◌, ◌≤◌, ◌<◌}
+use Prim.Native.Nat.{ℕ, ◌+◌, ◌≤◌, ◌<◌}
 use native.Mathlib.Omega.{arith}
 use borrow.Author.Tests.{eqb-true}
-use lib.Bits.{bit_or}
-use lib.Dec.{eqb, ltb, lit<, lit≤}
+use lib.Dec.{eqb, ltb, lit<}
 use lib.ListN.{get_or-eq_default, length}
 use mir.Val.{bool_byte}
 use Rattle.std.specs.Prelude.{if◌then◌else◌}
@@ -26,7 +25,7 @@ use Rattle.access.specs.declared.get_channel_access.GetChannelAccess.{GetChannel
 use Rattle.base.proofs.Outcome.{apart, otherwise, steps, Only, only_steps}
 use Rattle.base.proofs.Rows.{NoForm, nine, Strict, strict}
 use Rattle.base.proofs.connection.Laws.{channel_iff, channel_small, no_channel_form}
-use Rattle.base.proofs.field.Laws.{below, bit_small, is_set, Kept, one, ranging, set_bit, so_long, valued}
+use Rattle.base.proofs.field.Laws.{below, bit_small, is_set, Kept, one, ranging, so_long, valued}
 
 -- Modes and limits: a number that is read is written again, and what is written is read again.
 
@@ -74,19 +73,12 @@ mode_field_lem m n e = ap mode_value (sym ((mode_kept m).1 n e).1) ∙ mode_valu
 pub limit_field_lem : (m : ChannelPrivilegeLevel) (n : ℕ) → limit_field m ≡ accepted n → limit_value m ≡ n
 limit_field_lem m n e = ap limit_value (sym ((limit_kept m).1 n e).1) ∙ limit_value_lem n
 
--- Byte 0 of the response: what the machine puts together, and its four fields.
+-- Byte 0 of the response: its four fields.
 
 abbrev pub first : ℕ → Bool → Bool → Bool → ℕ
 first mode user perMessage alerting = mode + raised 3 user + raised 4 perMessage + raised 5 alerting
 
 module _ (mode : ℕ) (user perMessage alerting : Bool) (small : mode < 8) where
-  pub packed : bit_or (bit_or (bit_or mode (bool_byte user * 8 % 256)) (bool_byte perMessage * 16 % 256)) (bool_byte alerting * 32 % 256) ≡ first mode user perMessage alerting
-  packed =
-      let u = bit_small user in
-      let p = bit_small perMessage in
-      rw (set_bit 3 mode user (lit≤ tt) small, set_bit 4 (mode + raised 3 user) perMessage (lit≤ tt) (omega arith))
-      (set_bit 5 (mode + raised 3 user + raised 4 perMessage) alerting (lit≤ tt) (omega arith))
-
   fields : (bits 0 3 (first mode user perMessage alerting) ≡ mode)
       × (bits 3 1 (first mode user perMessage alerting) ≡ bool_byte user)
       × (bits 4 1 (first mode user perMessage alerting) ≡ bool_byte perMessage)

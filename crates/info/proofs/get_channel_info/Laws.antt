@@ -4,7 +4,6 @@ use mathlib.Core.Path.{◌≡◌, refl}
 use mathlib.Core.List.{List, [], ◌∷◌, ◌++◌}
 use Prim.Native.Nat.{ℕ, ◌+◌, ◌*◌, ◌≤◌}
 use native.Mathlib.Omega.{arith}
-use borrow.Author.Tests.{le-ltb}
 use lib.Dec.{ltb}
 use lib.ListN.{length}
 use Rattle.base.specs.Connection.{channel_of, channel_field}
@@ -22,10 +21,6 @@ use Rattle.media.proofs.get_channel_info.Laws.{medium_given, medium_kept, protoc
 use Rattle.info.specs.GetChannelInfo.{Typed, command, command_bytes, command_of, info_bytes, info_fields, info_of}
 use Rattle.info.specs.declared.get_channel_info.ChannelInfo.{ChannelInfo}
 use Rattle.info.specs.declared.get_channel_info.GetChannelInfo.{GetChannelInfo}
-
--- A response with its channel read.
-pub parsed : (s : List ℕ) (channel : Channel) (info : ChannelInfo) → 9 ≤ length s → channel_of (bits 0 4 (byte 0 s)) ≡ accepted channel → info ≡ info_fields s channel → accepted info ≡ info_of s
-parsed s channel info h e f = rw (f, le-ltb (length s) 9 h, e)
 
 -- What the writer writes.
 

@@ -31,9 +31,6 @@ module _ (n : ℕ) (past : 0x0D ≤ n) where
   pub medium_low : n < 0x60 → medium_of n ≡ Medium.ReservedValue n
   medium_low h = rw medium_other (simp (lt-ltb n 0x60 h))
 
-  pub medium_high : 0x7F < n → medium_of n ≡ Medium.ReservedValue n
-  medium_high h = rw medium_other (simp (le-ltb n 0x60 (omega arith), lt-ltb 0x7F n h))
-
 module _ (n : ℕ) (past : 0x0A ≤ n) where
   protocol_other : protocol_of n ≡ (if n from 0x1C to 0x1F then Protocol.Oem n else Protocol.ReservedValue n)
   protocol_other = get_or-eq_default protocols _ past
@@ -43,9 +40,6 @@ module _ (n : ℕ) (past : 0x0A ≤ n) where
 
   pub protocol_low : n < 0x1C → protocol_of n ≡ Protocol.ReservedValue n
   protocol_low h = rw protocol_other (simp (lt-ltb n 0x1C h))
-
-  pub protocol_high : 0x1F < n → protocol_of n ≡ Protocol.ReservedValue n
-  protocol_high h = rw protocol_other (simp (le-ltb n 0x1C (omega arith), lt-ltb 0x1F n h))
 
 pub session_other : (n : ℕ) → 4 ≤ n → session_of n ≡ Session.Reserved n
 session_other n h = get_or-eq_default sessions (Session.Reserved n) h

@@ -3,15 +3,14 @@ use mathlib.Core.Logic.{◌↔◌}
 use mathlib.Core.Path.{◌≡◌, refl, sym, ◌∙◌}
 use mathlib.Core.Bool.{Bool, true, false}
 use mathlib.Core.List.{List, [], ◌∷◌}
-use Prim.Native.Nat.{ℕ, ◌+◌, ◌*◌, ◌%◌, ◌^◌, ◌-◌, ◌≤◌, ◌<◌}
+use Prim.Native.Nat.{ℕ, ◌+◌, ◌*◌, ◌%◌, ◌^◌, ◌≤◌, ◌<◌}
 use native.Mathlib.Nat.{add_comm, div-one}
 use native.Mathlib.Omega.{arith}
 use borrow.Author.Tests.{ltb-true, ltb-false}
 use lib.Bits.{bit_or, or_shifted_r}
 use lib.Dec.{eqb, ltb, lit<, lit≤}
-use lib.ListN.{get_or-eq_default, length, take, drop, length-drop}
+use lib.ListN.{get_or-eq_default, length, drop}
 use lib.Pow.{field, mod-mod-pow, mod-pow-add, shl_exact}
-use lib.Seq.{take_all}
 use mir.Val.{bool_byte}
 use Rattle.base.specs.Connection.{channel_of, channel_field}
 use Rattle.base.specs.Field.{byte, bits, flag, within, Bytes}
@@ -89,10 +88,6 @@ not_shown a w = go (access_bytes a) (λ s e. (access_two a e).0) w
     go : (x : Outcome (List ℕ)) → ((s : List ℕ) → x ≡ accepted s → length s ≡ 2) → {r : Refusal} {after : List ℕ} → Writes x (Err r) (0 ∷ 0 ∷ []) after → x ≡ refusal r
     go (accepted s) two w = absurd (apart (rw (two s refl) at w.answers))
     go (refused n v) two {r} w = alike r w.answers
-
--- all bytes behind the first, as the reader cuts them off
-pub rest : (s : List ℕ) {x : Outcome ChannelAccess} → x ≡ access_of (take (length s - 1) (drop 1 s)) → x ≡ access_of (drop 1 s)
-rest s e = rw (take_all (length s - 1) (drop 1 s) (rw (length-drop 1 s) (omega arith))) at e
 
 -- The fields of bytes 1 and 2, written again: what stands below the pairs.
 
