@@ -1,25 +1,9 @@
 -- What the program keeps: its calls are those of a run. That what it reads comes from `read`, and that what it puts goes to `write`, no contract can say.
-use Rattle.std.specs.Prelude.{ℕ, ◌+◌, ◌≤◌, ◌<◌, true, false, List, [], ◌++◌, ◌≡◌, length, take, drop}
-use Rattle.collector.specs.Stored.{fresh_stored}
+use Rattle.std.specs.Prelude.{ℕ, ◌≤◌, ◌<◌, List, ◌++◌, ◌≡◌, length, take, drop}
 use Rattle.collector.specs.declared.Collector.{Collector}
 use Rattle.dump.specs.Input.{Line, output_of}
 use Rattle.stream.specs.Stream.{Reached, enough, limit}
-use Rattle.chandump.specs.declared.Part.{Part}
-use Rattle.chandump.specs.declared.Sent.{Sent}
-use Rattle.chandump.specs.declared.Way.{Way}
-use Rattle.chandump.specs.declared.Got.{Got}
-use Rattle.chandump.specs.declared.Got.TheVariants.{Bytes, Nothing, End, Fault}
-
--- a read gives no more than there is room for
-abbrev pub Within : Got → ℕ → Type 0
-Within (Bytes n) most = n ≤ most
-Within Nothing most = Unit {0}
-Within End most = Unit {0}
-Within Fault most = Unit {0}
-
--- At the start: where it goes on, what is put first is what a run has written that has read nothing.
-abbrev pub Begun : Sent → List ℕ → Type 0
-Begun r out = 0 < r.calls → Reached [] (take r.done out) [] fresh_stored
+use Rattle.stream.specs.declared.Fed.{Fed}
 
 -- a run comes to this, whatever it has read and written
 pub record Ran (rest : List ℕ) (c : Collector) : Type 0 where
@@ -28,17 +12,10 @@ pub record Ran (rest : List ℕ) (c : Collector) : Type 0 where
   pub reached : Reached input text rest c
 
 -- Some lines of a block are answered: what stands at the start of the buffer is what a run writes. Nothing is taken only where no line is left.
-pub record Answered (block : List ℕ) (r : Part) (out : List ℕ) (c left : Collector) : Type 0 where
+pub record Answered (block : List ℕ) (r : Fed) (out : List ℕ) (c left : Collector) : Type 0 where
   pub grows : {input text : List ℕ} → Reached input text block c → Reached input (text ++ take r.put out) (drop r.taken block) left
   pub most : r.taken ≤ length block
   pub none : r.taken ≡ 0 → Line block
-
--- where a part leads: on where it took something and that was written
-pub record Further (at : ℕ) (part : Part) (r : Way) : Type 0 where
-  pub place : r.at ≡ at + part.taken
-  pub fault : r.ok ≡ part.ok
-  pub some : r.on ≡ true → 0 < part.taken
-  pub none : r.on ≡ false → r.ok ≡ true → part.taken ≡ 0
 
 -- all lines of a block are answered
 pub record Whole (block : List ℕ) (at : ℕ) (left : Collector) : Type 0 where

@@ -2,45 +2,35 @@
 // it is read and written. What a read brought is answered before the next read.
 #![tactic(auto)]
 
-ghost use Rattle.std.specs.Prelude.{◌+◌, ◌<◌, ◌≤◌, ◌^◌, true, ◌≡◌, length, take};
+ghost use Rattle.std.specs.Prelude.{[], ◌<◌, ◌≤◌, ◌≡◌, IfOk, IfSome, length, take};
 ghost use Rattle.collector.specs.Collector.{held};
 ghost use Rattle.collector.specs.Histories.{Typed};
-ghost use Rattle.collector.specs.Stored.{fresh_stored, collector_of};
+ghost use Rattle.collector.specs.Stored.{fresh_stored};
 ghost use Rattle.dump.specs.Input.{Line};
-ghost use Rattle.stream.specs.Stream.{enough, limit};
-ghost use Rattle.chandump.specs.Run.{Answered, Begun, Ended, Further, Ran, Ready, Whole, Within};
+ghost use Rattle.stream.specs.Stream.{Reached, enough, limit};
+ghost use Rattle.chandump.specs.Run.{Answered, Ended, Ran, Ready, Whole};
 
-use base::written::Written;
 use collector::Collector;
 use lines::kept;
 use std::env::{Env, FillError};
 use std::io::{Error, ErrorKind, Read, Write};
 use std::thread;
 use std::time::Duration;
-use stream::{LINE, begin, feed, finish};
+use stream::{Fed, LINE, begin, feed, finish};
 
 // A proved loop has to end, and nothing says that the input does, or that a file that does not block is ever ready: a loop
-// counts its calls down from a number that no run uses up.
+// makes at most so many calls, which no run uses up.
 const CALLS: u64 = 0x0100_0000_0000;
 
 // What is read at a time, and the room for answers.
 const BLOCK: usize = 0x1_0000;
 
-// What came of a read.
+// What ends the program before the input ends: a fault of reading or of writing, or the calls are used up.
 #[derive(Drop)]
-enum Got {
-    Bytes(usize),
-    Nothing,
-    End,
-    Fault,
-}
-
-// How much of a text is written, and how many calls are left for the rest: none where it is done, or where there was a
-// fault.
-#[derive(Drop)]
-struct Sent {
-    done: usize,
-    calls: u64,
+enum Fault {
+    Input(Error),
+    Output(Error),
+    Calls,
 }
 
 // A millisecond.
@@ -59,75 +49,49 @@ fn again(rt: HostRuntime, error: Error) -> bool {
     kind == ErrorKind::Interrupted
 }
 
-// A fault, in a line on standard error; where that cannot be written either, there is nobody to tell. A pipe that nobody reads
-// any more is none.
-fn fail(rt: HostRuntime, what: &str, error: Error) {
+// A line on standard error; where that cannot be written either, there is nobody to tell. A pipe that nobody reads any more
+// is no fault.
+fn tell(rt: HostRuntime, what: &str, error: Error) {
     if error.kind() == ErrorKind::BrokenPipe {
         return;
     }
     let _ = eprintln!(rt; "chandump: {what}: {error}");
 }
 
-fn send(rt: HostRuntime, text: &[u8], before: Sent) -> Sent
-    requires { (before.done ≤ length text.now) × (0 < before.calls) }
-    ensures { (result.done ≤ length text.now) × (result.calls < before.calls) }
+// A text is written whole: how many bytes of it were.
+fn written(rt: HostRuntime, text: &[u8]) -> Result<usize, Fault>
+    ensures { IfOk result (λ n. n ≡ length text.now) }
 {
-    let done = before.done;
-    let part = &text[done..];
-    if part.len() == 0 {
-        return Sent { done, calls: 0 };
-    }
-    match rt.stdout().write(part) {
-        Ok(taken) => {
-            if taken == 0 {
-                pause(rt);
-            }
-            Sent {
-                done: done + taken,
-                calls: before.calls - 1,
+    let mut done = 0;
+    for _ in 0..CALLS {
+        let part = &text[done..];
+        if part.is_empty() {
+            return Ok(done);
+        }
+        match rt.stdout().write(part) {
+            Ok(0) => pause(rt),
+            Ok(taken) => done += taken,
+            Err(error) => {
+                if !again(rt, error) {
+                    return Err(Fault::Output(error));
+                }
             }
         }
-        Err(error) => {
-            if again(rt, error) {
-                return Sent {
-                    done,
-                    calls: before.calls - 1,
-                };
-            }
-            fail(rt, "standard output", error);
-            Sent { done, calls: 0 }
-        }
     }
+    Err(Fault::Calls)
 }
 
-// All is written, or the fault is said.
-fn written(rt: HostRuntime, text: &[u8]) -> bool {
-    let mut sent = Sent {
-        done: 0,
-        calls: CALLS,
-    };
-    while 0 < sent.calls {
-        sent = send(rt, text, sent);
-    }
-    sent.done == text.len()
-}
-
-fn receive(rt: HostRuntime, block: &mut [u8]) -> Got
-    ensures { Within result (length block.old) }
+// A read: how many bytes it brought, 0 at the end of the input; nothing where it is to be tried again.
+fn receive(rt: HostRuntime, block: &mut [u8]) -> Result<Option<usize>, Fault>
+    ensures { IfOk result (λ got. IfSome got (λ n. n ≤ length block.old)) }
 {
     match rt.stdin().read(block) {
-        Ok(n) => {
-            if n == 0 {
-                return Got::End;
-            }
-            Got::Bytes(n)
-        }
+        Ok(n) => Ok(Some(n)),
         Err(error) => {
             if again(rt, error) {
-                return Got::Nothing;
+                return Ok(None);
             }
-            fail(rt, "standard input", error);
-            Got::Fault
+            Err(Fault::Input(error))
         }
     }
 }
@@ -137,205 +101,126 @@ fn typed(bytes: [u8; Collector::CAPACITY], marks: [u8; Collector::PARTS])
     ensures { Typed (held bytes marks) }
 {}
 
-// How many bytes of a block were taken, how many were put, and whether those were written.
-#[derive(Drop)]
-struct Part {
-    taken: usize,
-    put: usize,
-    ok: bool,
+// The heading is written, before anything is read.
+fn begun(rt: HostRuntime, out: &mut [u8]) -> Result<usize, Fault>
+    requires { enough ≤ length out.old }
+    ensures { IfOk result (λ put. Reached [] (take put out.new) [] fresh_stored) }
+{
+    let heading = begin(out).unwrap();
+    written(rt, &out[..heading])
 }
 
 // Lines of a block are answered, as many as have room, and the answers written.
 fn some(
     rt: HostRuntime,
-    bytes: &mut [u8; Collector::CAPACITY],
-    marks: &mut [u8; Collector::PARTS],
-    known: &mut [u8; Collector::KNOWN],
+    collector: &mut Collector,
     block: &[u8],
     out: &mut [u8],
-) -> Part
+) -> Result<Fed, Fault>
     requires { enough ≤ length out.old }
-    ensures { Answered block.now result out.new (collector_of bytes.old marks.old known.old) (collector_of bytes.new marks.new known.new) }
+    ensures { IfOk result (λ fed. Answered block.now fed out.new collector.old collector.new) }
 {
-    typed(*bytes, *marks);
-    let fed = feed(bytes, marks, known, block, out);
-    let put = fed.put;
-    let ok = written(rt, &out[0..put]);
-    Part {
+    typed(collector.bytes, collector.marks);
+    let fed = feed(collector, block, out);
+    let put = written(rt, &out[..fed.put])?;
+    Ok(Fed {
         taken: fed.taken,
         put,
-        ok,
-    }
+    })
 }
 
-// How far a block is answered, whether a line may be left, and whether all that was put was written.
-#[derive(Drop)]
-struct Way {
-    at: usize,
-    on: bool,
-    ok: bool,
-}
-
-fn further(at: usize, part: Part) -> Way
-    requires { at + part.taken < 2 ^ 64 }
-    ensures { Further at part result }
-{
-    if part.taken == 0 {
-        return Way {
-            at,
-            on: false,
-            ok: part.ok,
-        };
-    }
-    Way {
-        at: at + part.taken,
-        on: part.ok,
-        ok: part.ok,
-    }
-}
-
-// All lines of a block.
+// All lines of a block: how many bytes they are.
 fn all(
     rt: HostRuntime,
-    bytes: &mut [u8; Collector::CAPACITY],
-    marks: &mut [u8; Collector::PARTS],
-    known: &mut [u8; Collector::KNOWN],
+    collector: &mut Collector,
     block: &[u8],
     out: &mut [u8],
-) -> Way
-    requires { Ran block.now (collector_of bytes.old marks.old known.old) × (enough ≤ length out.old) }
-    ensures { (result.ok ≡ true → Whole block.now result.at (collector_of bytes.new marks.new known.new)) × (result.at ≤ length block.now) }
+) -> Result<usize, Fault>
+    requires { Ran block.now collector.old × (enough ≤ length out.old) }
+    ensures { IfOk result (λ at. Whole block.now at collector.new) }
 {
-    let mut way = Way {
-        at: 0,
-        on: true,
-        ok: true,
-    };
-    while way.on {
-        let at = way.at;
-        let part = some(rt, bytes, marks, known, &block[at..], out);
-        way = further(at, part);
+    let mut at = 0;
+    loop {
+        let fed = some(rt, collector, &block[at..], out)?;
+        if fed.taken == 0 {
+            return Ok(at);
+        }
+        at += fed.taken;
     }
-    way
 }
 
-// Between two reads: how much of an unfinished line stands at the start of the block, and how many calls are left: none at
-// the end of the input, or where there was a fault.
-#[derive(Drop)]
-struct Turn {
-    held: usize,
-    calls: u64,
-}
-
-// What was read up to a place is answered, and what is left of it kept.
+// What was read up to a place is answered, and what is left of it kept, at the start of the block: how many bytes.
 fn answer(
     rt: HostRuntime,
-    bytes: &mut [u8; Collector::CAPACITY],
-    marks: &mut [u8; Collector::PARTS],
-    known: &mut [u8; Collector::KNOWN],
+    collector: &mut Collector,
     block: &mut [u8],
     end: usize,
-    calls: u64,
     out: &mut [u8],
-) -> Turn
-    requires { Ran (take end block.old) (collector_of bytes.old marks.old known.old) × ((end ≤ length block.old) × ((limit < length block.old) × (enough ≤ length out.old))) }
-    ensures { (0 < result.calls → Ready result.held block.new out.new (collector_of bytes.new marks.new known.new)) × (result.calls ≤ calls) }
+) -> Result<usize, Fault>
+    requires { Ran (take end block.old) collector.old × ((end ≤ length block.old) × ((limit < length block.old) × (enough ≤ length out.old))) }
+    ensures { IfOk result (λ held. Ready held block.new out.new collector.new) }
 {
-    let way = all(rt, bytes, marks, known, &block[0..end], out);
-    let held = kept(block, way.at, end, LINE);
-    if way.ok {
-        return Turn { held, calls };
-    }
-    Turn { held, calls: 0 }
+    let at = all(rt, collector, &block[..end], out)?;
+    Ok(kept(block, at, end, LINE))
 }
 
 // The end of the input: a last line, which needs no newline.
 fn last(
     rt: HostRuntime,
-    bytes: &mut [u8; Collector::CAPACITY],
-    marks: &mut [u8; Collector::PARTS],
-    known: &mut [u8; Collector::KNOWN],
+    collector: &mut Collector,
     rest: &[u8],
     out: &mut [u8],
-) -> usize
-    requires { Ran rest.now (collector_of bytes.old marks.old known.old) × (Line rest.now × (enough ≤ length out.old)) }
-    ensures { Ended result out.new }
+) -> Result<usize, Fault>
+    requires { Ran rest.now collector.old × (Line rest.now × (enough ≤ length out.old)) }
+    ensures { IfOk result (λ put. Ended put out.new) }
 {
-    typed(*bytes, *marks);
-    let Written::Length(put) = finish(bytes, marks, known, rest, out) else {
-        return 0;
-    };
-    written(rt, &out[0..put]);
-    put
+    typed(collector.bytes, collector.marks);
+    let put = finish(collector, rest, out).unwrap();
+    written(rt, &out[..put])
 }
 
-// A read, and all that it brought.
+// A read, and all that it brought: how many bytes of an unfinished line are held then; nothing at the end of the input.
 fn once(
     rt: HostRuntime,
-    bytes: &mut [u8; Collector::CAPACITY],
-    marks: &mut [u8; Collector::PARTS],
-    known: &mut [u8; Collector::KNOWN],
-    before: Turn,
+    collector: &mut Collector,
+    held: usize,
     block: &mut [u8],
     out: &mut [u8],
-) -> Turn
-    requires { Ready before.held block.old out.old (collector_of bytes.old marks.old known.old) × (0 < before.calls) }
-    ensures { (0 < result.calls → Ready result.held block.new out.new (collector_of bytes.new marks.new known.new)) × (result.calls < before.calls) }
+) -> Result<Option<usize>, Fault>
+    requires { Ready held block.old out.old collector.old }
+    ensures { IfOk result (λ left. IfSome left (λ held. Ready held block.new out.new collector.new)) }
 {
-    let held = before.held;
-    let calls = before.calls - 1;
-    let got = receive(rt, &mut block[held..]);
-    match got {
-        Got::Bytes(n) => answer(rt, bytes, marks, known, block, held + n, calls, out),
-        Got::Nothing => Turn { held, calls },
-        Got::End => {
-            last(rt, bytes, marks, known, &block[0..held], out);
-            Turn { held, calls: 0 }
+    match receive(rt, &mut block[held..])? {
+        None => Ok(Some(held)),
+        Some(0) => {
+            last(rt, collector, &block[..held], out)?;
+            Ok(None)
         }
-        Got::Fault => Turn { held, calls: 0 },
+        Some(n) => Ok(Some(answer(rt, collector, block, held + n, out)?)),
     }
-}
-
-// The heading, before anything is read.
-fn begun(rt: HostRuntime, out: &mut [u8]) -> Sent
-    ensures { Begun result out.new }
-{
-    let Written::Length(put) = begin(out) else {
-        return Sent { done: 0, calls: 0 };
-    };
-    if written(rt, &out[0..put]) {
-        return Sent {
-            done: put,
-            calls: CALLS,
-        };
-    }
-    Sent { done: 0, calls: 0 }
 }
 
 fn run(
     rt: HostRuntime,
-    bytes: &mut [u8; Collector::CAPACITY],
-    marks: &mut [u8; Collector::PARTS],
-    known: &mut [u8; Collector::KNOWN],
+    collector: &mut Collector,
     block: &mut [u8],
     out: &mut [u8],
-)
-    requires { (collector_of bytes.old marks.old known.old ≡ fresh_stored) × ((limit < length block.old) × (enough ≤ length out.old)) }
+) -> Result<(), Fault>
+    requires { (collector.old ≡ fresh_stored) × ((limit < length block.old) × (enough ≤ length out.old)) }
 {
-    let first = begun(rt, out);
-    let mut turn = Turn {
-        held: 0,
-        calls: first.calls,
-    };
-    while 0 < turn.calls {
-        turn = once(rt, bytes, marks, known, turn, block, out);
+    begun(rt, out)?;
+    let mut held = 0;
+    for _ in 0..CALLS {
+        let Some(left) = once(rt, collector, held, block, out)? else {
+            return Ok(());
+        };
+        held = left;
     }
+    Err(Fault::Calls)
 }
 
-fn page(rt: HostRuntime) {
-    written(
-        rt,
-        b"chandump shows what an IPMI management controller said of a channel. It takes no argument: it reads lines from
+const PAGE: &[u8] =
+    b"chandump shows what an IPMI management controller said of a channel. It takes no argument: it reads lines from
 standard input and answers each with a line.
 
 A line is a word, then hex pairs, one space before each:
@@ -353,9 +238,7 @@ A line that is refused is answered \"refused\" and a number:
     7     an index is above 3F
     12    no list explains this part and those before it
     14    the line has another form, or is above 256 bytes
-",
-    );
-}
+";
 
 // Is there an argument? Of what it says nothing is taken.
 fn asked(rt: HostRuntime) -> bool {
@@ -365,15 +248,22 @@ fn asked(rt: HostRuntime) -> bool {
     }
 }
 
-fn main(rt: HostRuntime) {
+// A page where an argument asks for it, or the answers.
+fn said(rt: HostRuntime) -> Result<(), Fault> {
     if asked(rt) {
-        page(rt);
-        return;
+        written(rt, PAGE)?;
+        return Ok(());
     }
-    let mut bytes = [0; Collector::CAPACITY];
-    let mut marks = [0; Collector::PARTS];
-    let mut known = [0; Collector::KNOWN];
+    let mut collector = Collector::fresh();
     let mut block = [0u8; BLOCK];
     let mut out = [0u8; BLOCK];
-    run(rt, &mut bytes, &mut marks, &mut known, &mut block, &mut out);
+    run(rt, &mut collector, &mut block, &mut out)
+}
+
+fn main(rt: HostRuntime) {
+    match said(rt) {
+        Err(Fault::Input(error)) => tell(rt, "standard input", error),
+        Err(Fault::Output(error)) => tell(rt, "standard output", error),
+        _ => {}
+    }
 }
