@@ -14,11 +14,12 @@ use Rattle.by_suite.specs.ChannelCollector.{suites_from}
 use Rattle.by_suite.specs.Demand.{listening}
 use Rattle.by_suite.specs.GetChannelCipherSuites.{command_bytes, command_for, is_channel}
 use Rattle.by_suite.proofs.Demand.{suites_are_the_channels}
-use Rattle.collector.specs.Collector.{answer_of, capacity, complete, missing, taking}
+use Rattle.collector.specs.Collector.{answer_of, capacity, taking}
 use Rattle.collector.specs.Demand.{AllHeard, Call, Explained, Explains, HeardIn, IsList, controllers, made, taken}
 use Rattle.collector.specs.Histories.{accepted_of, after}
 use Rattle.collector.specs.Stored.{after_stored, fresh_stored, list_stored, standing_stored, taking_stored}
 use Rattle.collector.specs.declared.Collector.{Collector}
+use Rattle.collector.specs.declared.Status.TheVariants.{Complete, Missing}
 use Rattle.collector.proofs.Demand.{demand_3, twelve_exactly}
 use Rattle.collector.proofs.Parts.{answer_length}
 use Rattle.collector.proofs.Step.{fresh_wf}
@@ -42,13 +43,13 @@ module _ (n : ℕ) (s : length (sevens n) ≤ capacity) where
   list = record { bytes = bytes n; size = s }
 
   module _ (h : List Call) (e : Explains controllers (sevens n) h) where
-    whole : AllHeard controllers (sevens n) h → (standing_stored (after_stored h) ≡ accepted (complete (length (sevens n)))) × (list_stored (after_stored h) ≡ accepted (sevens n))
+    whole : AllHeard controllers (sevens n) h → (standing_stored (after_stored h) ≡ accepted (Complete (length (sevens n)))) × (list_stored (after_stored h) ≡ accepted (sevens n))
     whole all = demand_3_stored.its_list (sevens n) list h e all
 
     all_accepted : accepted_of h ≡ h
     all_accepted = demand_3.none_refused (sevens n) list h e
 
-pub P11 : (standing_stored (after_stored (call 0 0 ∷ [])) ≡ accepted (complete 0)) × (list_stored (after_stored (call 0 0 ∷ [])) ≡ accepted [])
+pub P11 : (standing_stored (after_stored (call 0 0 ∷ [])) ≡ accepted (Complete 0)) × (list_stored (after_stored (call 0 0 ∷ [])) ≡ accepted [])
 P11 = whole 0 (omega arith) (call 0 0 ∷ []) ((omega arith, refl), tt) (λ i il. let z : 0 ≡ i = omega arith in inl z)
 
 abbrev two : List Call
@@ -60,18 +61,18 @@ three = call 1 3 ∷ two
 honest_two : Explains controllers (sevens 19) two
 honest_two = ((omega arith, refl), ((omega arith, refl), tt))
 
-pub P12_first : standing_stored (after_stored two) ≡ accepted (missing 1)
+pub P12_first : standing_stored (after_stored two) ≡ accepted (Missing 1)
 P12_first =
     let unheard : HeardIn 1 two → ⊥ = λ x. ⊎_elim (λ (z : 2 ≡ 1). omega arith) (λ y. ⊎_elim (λ (z : 0 ≡ 1). omega arith) (λ n. n) y) x in
     let (k, e, un, under) = demand_3_stored.names_lowest (sevens 19) (list 19 (omega arith)) two honest_two (λ all. unheard (all 1 (omega arith))) in
     go k e un under unheard
   where
-    go : (k : ℕ) → standing_stored (after_stored two) ≡ accepted (missing k) → (HeardIn k two → ⊥) → ((j : ℕ) → j < k → HeardIn j two) → (HeardIn 1 two → ⊥) → standing_stored (after_stored two) ≡ accepted (missing 1)
+    go : (k : ℕ) → standing_stored (after_stored two) ≡ accepted (Missing k) → (HeardIn k two → ⊥) → ((j : ℕ) → j < k → HeardIn j two) → (HeardIn 1 two → ⊥) → standing_stored (after_stored two) ≡ accepted (Missing 1)
     go zero e un under n = absurd (un (inr (inl refl)))
     go (suc zero) e un under n = e
     go (suc (suc k)) e un under n = absurd (n (under 1 (omega arith)))
 
-pub P12_then : standing_stored (after_stored three) ≡ accepted (complete 19)
+pub P12_then : standing_stored (after_stored three) ≡ accepted (Complete 19)
 P12_then =
     (whole 19 (omega arith) three ((omega arith, refl), honest_two) (λ i il. heard i (omega arith))).0
   where

@@ -3,7 +3,7 @@ use mathlib.Core.Path.{◌≡◌}
 use Prim.Native.Nat.{ℕ}
 use mathlib.Core.Bool.{false}
 use mathlib.Core.List.{List, [], ◌∷◌, ◌++◌, map}
-use mathlib.Core.Option.{some}
+use Rattle.std.specs.Prelude.{Some, None}
 use lib.ListN.{replicate}
 use Rattle.auth.specs.Auth.{privilege_of}
 use Rattle.auth.specs.GetChannelAuthenticationCapabilities as Capabilities
@@ -17,14 +17,13 @@ use Rattle.base.specs.declared.connection.Channel.TheVariants.{Current, Numbered
 use Rattle.access.specs.GetChannelAccess.{command, command_bytes}
 use Rattle.access.specs.declared.get_channel_access.ChannelAccessType.TheVariants.{NonVolatile}
 use Rattle.claims.proofs.Collecting.{P11, P12_first, P12_then, P13, call, seventeen_at_63, sevens, sixteen_at_63}
-use Rattle.collector.specs.Collector.{complete, missing}
+use Rattle.collector.specs.declared.Status.TheVariants.{Complete, Missing}
 use Rattle.collector.specs.Stored.{after_stored, fresh_stored, list_stored, standing_stored, taking_stored}
 use Rattle.activation.specs.ActivateSession as Activate
 use Rattle.activation.specs.ActivateSession.{begin_of}
 use Rattle.challenge.specs.GetSessionChallenge as Challenge
 use Rattle.challenge.specs.GetSessionChallenge.{challenge_of}
 use Rattle.suites.specs.GetChannelCipherSuites as Suites
-use Rattle.suites.specs.declared.get_channel_cipher_suites.SuiteAnswer.TheVariants.{Nothing, Suite}
 
 infix 5 ◌gives◌
 pub record Row : Type 1 where
@@ -63,18 +62,18 @@ examples =
     -- P8
     ∷ (begin_of (3 ∷ replicate 9 0) gives refused 4 (3 ∷ []))
     -- P9
-    ∷ (privilege_of 0xF4 gives some Administrator)
+    ∷ (privilege_of 0xF4 gives Some Administrator)
     ∷ (begin_of (0 ∷ replicate 8 1 ++ 0x06 ∷ []) gives refused 5 (0x06 ∷ []))
     -- P10
-    ∷ ((Suites.step_after 0 two_records 0 false).answer gives Nothing)
-    ∷ ((Suites.step_after 1 two_records 0 false).answer gives Suite (Suites.suite 3))
+    ∷ ((Suites.step_after 0 two_records 0 false).answer gives None)
+    ∷ ((Suites.step_after 1 two_records 0 false).answer gives Some (Suites.suite 3))
     ∷ (Suites.numbers_of two_records gives [])
     -- P11
-    ∷ (standing_stored (after_stored (call 0 0 ∷ [])) gives accepted (complete 0))
+    ∷ (standing_stored (after_stored (call 0 0 ∷ [])) gives accepted (Complete 0))
     ∷ (list_stored (after_stored (call 0 0 ∷ [])) gives accepted [])
     -- P12
-    ∷ (standing_stored (after_stored (call 2 0 ∷ call 0 16 ∷ [])) gives accepted (missing 1))
-    ∷ (standing_stored (after_stored (call 1 3 ∷ call 2 0 ∷ call 0 16 ∷ [])) gives accepted (complete 19))
+    ∷ (standing_stored (after_stored (call 2 0 ∷ call 0 16 ∷ [])) gives accepted (Missing 1))
+    ∷ (standing_stored (after_stored (call 1 3 ∷ call 2 0 ∷ call 0 16 ∷ [])) gives accepted (Complete 19))
     -- P13
     ∷ (verdict_of (taking_stored (after_stored (call 1 3 ∷ [])) 2 (sevens 1)) gives refused 12 [])
     -- "Sixteen bytes accepted at index 63; seventeen refused 2."

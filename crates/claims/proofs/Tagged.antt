@@ -2,7 +2,7 @@
 use Prim.Native.Nat.{ℕ, zero, suc, ◌+◌, ◌≤◌}
 use mathlib.Core.Bool.{false}
 use mathlib.Core.List.{List, [], ◌∷◌, ◌++◌, map}
-use mathlib.Core.Option.{some}
+use Rattle.std.specs.Prelude.{Some}
 use mathlib.Core.Path.{◌≡◌, refl, sym, ◌∙◌, ap}
 use native.Mathlib.Omega.{arith}
 use borrow.Author.Tests.{lt-ltb, le-ltb}
@@ -21,7 +21,7 @@ use Rattle.tagged.proofs.tagged_records.Sequences.{reading_accepted, some_bytes}
 -- a standard suite that is known, with one number of each kind
 pub record Plain (s : Suite) : Type 0 where
   pub standard : s.owner ≡ Standard
-  pub known : Old.suite_of s.number ≡ some (Old.suite s.number)
+  pub known : Old.suite_of s.number ≡ Some (Old.suite s.number)
   pub integrity : length s.integrity ≡ 1
   pub confidentiality : length s.confidentiality ≡ 1
 
