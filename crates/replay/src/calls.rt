@@ -1,9 +1,10 @@
 // The functions by their numbers: tests/oracle/README.md and tests/model/README.md have a row for each. A question of any other
 // number, or with another number of arguments, is refused 14.
 use crate::arguments::{
-    activation_request, set_access_apply, set_access_request, suite_of, tagged_step, tagged_write,
+    activation_request, by_suite_request, set_access_apply, set_access_request, suite_of,
+    tagged_step, tagged_write,
 };
-use crate::channel_suites::{by_suite_read, by_suite_request, by_suite_written, joined_suites};
+use crate::channel_suites::{by_suite_read, by_suite_written, joined_suites};
 use crate::leaves::{
     auth_type, authentication, channel, channel_number, confidentiality, integrity, privilege,
     unit, unit_low,
@@ -17,8 +18,8 @@ use crate::responses::{
     suite_confidentiality, suite_steps, suites_part, suites_written,
 };
 use crate::settings::{set_applied, set_written};
+use base::little::number;
 use base::refusal::Refusal;
-use base::written::Written;
 use capi::display::{
     ghj_auth_type_name, ghj_channel_text, ghj_limit_text, ghj_medium_text, ghj_mode_text,
     ghj_protocol_text, ghj_session_support_text,
@@ -40,10 +41,15 @@ use capi::tagged_records::{ghj_tagged_listing, ghj_tagged_numbers};
 pub(crate) const BAD: u64 = 0x8000_0000_0000_000E;
 
 // GHJ_NONE.
-pub(crate) const NONE: u64 = 0x4000_0000_0000_0000;
+pub(crate) const NONE: usize = 0x4000_0000_0000_0000;
+
+// Two parts of a number.
+pub(crate) fn two(low: u8, high: u8) -> usize {
+    number([low, high, 0, 0]) as usize
+}
 
 // As C gets it. No refusal that is asked for here carries more than a byte.
-pub(crate) fn refused(refusal: Refusal) -> u64 {
+fn refused(refusal: Refusal) -> u64 {
     let carried = refusal.carried();
     if 255 < carried {
         return BAD;
@@ -51,11 +57,15 @@ pub(crate) fn refused(refusal: Refusal) -> u64 {
     0x8000_0000_0000_0000 + (refusal.number() as u64) + 256 * (carried as u64)
 }
 
-pub(crate) fn code(written: Written) -> u64 {
-    match written {
-        Written::Length(length) => length as u64,
-        Written::Refused(refusal) => refused(refusal),
+fn code(answer: Result<usize, Refusal>) -> u64 {
+    match answer {
+        Ok(number) => number as u64,
+        Err(refusal) => refused(refusal),
     }
+}
+
+fn or_none(answer: Option<usize>) -> u64 {
+    answer.unwrap_or(NONE) as u64
 }
 
 // Bytes, those of a response or of a list.
@@ -68,14 +78,14 @@ fn of_response(f: u8, a: &[u8], out: &mut [u8]) -> u64 {
         0x05 => ghj_activation(a, out),
         0x06 => ghj_suites(a, out),
         0x07 => ghj_suite_numbers(a, out),
-        0x08 => is_disabled(a),
-        0x09 => best_auth(a),
-        0x0A => access_written(a, out),
-        0x0B => info_written(a, out),
-        0x0C => capabilities_written(a, out),
-        0x0D => suites_part(a, out),
-        0x0E => suites_written(a, out),
-        0x0F => suite_steps(a, out),
+        0x08 => code(is_disabled(a)),
+        0x09 => code(best_auth(a)),
+        0x0A => code(access_written(a, out)),
+        0x0B => code(info_written(a, out)),
+        0x0C => code(capabilities_written(a, out)),
+        0x0D => code(suites_part(a, out)),
+        0x0E => code(suites_written(a, out)),
+        0x0F => suite_steps(a, out) as u64,
         _ => BAD,
     }
 }
@@ -83,22 +93,21 @@ fn of_response(f: u8, a: &[u8], out: &mut [u8]) -> u64 {
 // Bytes, those of a request.
 fn of_request(f: u8, a: &[u8], out: &mut [u8]) -> u64 {
     match f {
-        0x10 => access_read(a),
-        0x11 => info_read(a),
-        0x12 => capabilities_read(a),
-        0x13 => challenge_read(a, out),
-        0x14 => activation_read(a, out),
-        0x15 => suites_read(a),
+        0x10 => code(access_read(a)),
+        0x11 => code(info_read(a)),
+        0x12 => code(capabilities_read(a)),
+        0x13 => code(challenge_read(a, out)),
+        0x14 => code(activation_read(a, out)),
+        0x15 => code(suites_read(a)),
         _ => BAD,
     }
 }
 
 // A number, with lent bytes.
 fn of_number(f: u8, a: &[u8], out: &mut [u8]) -> u64 {
-    if a.len() != 1 {
+    let &[n] = a else {
         return BAD;
-    }
-    let n = a[0];
+    };
     match f {
         0x20 => ghj_channel_text(n, out),
         0x21 => ghj_mode_text(n, out),
@@ -115,33 +124,30 @@ fn of_number(f: u8, a: &[u8], out: &mut [u8]) -> u64 {
 
 // A number alone.
 fn of_leaf(f: u8, a: &[u8]) -> u64 {
-    if a.len() != 1 {
+    let &[n] = a else {
         return BAD;
-    }
-    let n = a[0];
+    };
     match f {
-        0x30 => channel_number(n),
-        0x31 => channel(n),
-        0x32 => unit_low(n),
-        0x33 => unit(n),
-        0x34 => authentication(n),
-        0x35 => integrity(n),
-        0x36 => confidentiality(n),
-        0x37 => auth_type(n),
-        0x38 => privilege(n),
-        0x39 => suite(n),
-        0x3A => suite_confidentiality(n),
+        0x30 => code(channel_number(n)),
+        0x31 => code(channel(n)),
+        0x32 => unit_low(n) as u64,
+        0x33 => or_none(unit(n)),
+        0x34 => or_none(authentication(n)),
+        0x35 => or_none(integrity(n)),
+        0x36 => or_none(confidentiality(n)),
+        0x37 => or_none(auth_type(n)),
+        0x38 => or_none(privilege(n)),
+        0x39 => or_none(suite(n)),
+        0x3A => or_none(suite_confidentiality(n)),
         _ => BAD,
     }
 }
 
 // Two numbers.
 fn of_two(f: u8, a: &[u8], out: &mut [u8]) -> u64 {
-    if a.len() != 2 {
+    let &[n, m] = a else {
         return BAD;
-    }
-    let n = a[0];
-    let m = a[1];
+    };
     match f {
         0x40 => ghj_access_request(n, m, out),
         0x41 => ghj_capabilities_request(n, m, out),
@@ -153,12 +159,12 @@ fn of_two(f: u8, a: &[u8], out: &mut [u8]) -> u64 {
 
 // At least one byte, of other shapes.
 fn of_some(f: u8, a: &[u8], out: &mut [u8]) -> u64 {
-    if a.len() == 0 {
+    let [kind, name @ ..] = a else {
         return BAD;
-    }
+    };
     match f {
-        0x50 => ghj_challenge_request(a[0], &a[1..], out),
-        0x51 => challenge_name(a[0], &a[1..], out),
+        0x50 => ghj_challenge_request(*kind, name, out),
+        0x51 => code(challenge_name(*kind, name, out)),
         0x52 => activation_request(a, out),
         0x53 => suite_of(a),
         _ => BAD,
@@ -170,18 +176,18 @@ fn of_model(f: u8, a: &[u8], out: &mut [u8]) -> u64 {
     match f {
         0x80 => set_access_request(a, out),
         0x81 => ghj_set_access(a, out),
-        0x82 => set_written(a, out),
+        0x82 => code(set_written(a, out)),
         0x83 => set_access_apply(a, out),
-        0x84 => set_applied(a, out),
+        0x84 => code(set_applied(a, out)),
         0x85 => tagged_step(a, out),
         0x86 => ghj_tagged_numbers(a, out),
         0x87 => ghj_tagged_listing(a, out),
         0x88 => tagged_write(a, out),
         0x89 => by_suite_request(a, out),
-        0x8A => by_suite_read(a),
+        0x8A => code(by_suite_read(a)),
         0x8B => ghj_by_suite(a, out),
-        0x8C => by_suite_written(a, out),
-        0x8D => joined_suites(a, out),
+        0x8C => code(by_suite_written(a, out)),
+        0x8D => code(joined_suites(a, out)),
         _ => BAD,
     }
 }

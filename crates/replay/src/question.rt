@@ -1,11 +1,9 @@
 // One question, and a sweep: questions that differ in a few bytes, answered by one hash.
-ghost use Rattle.std.specs.Prelude.{◌<◌};
+ghost use Rattle.std.specs.Prelude.{◌<◌, ◌≤◌, length};
 
-use crate::arguments::wide;
 use crate::calls::{BAD, call};
 use crate::{FILL, LENT};
-use base::little::{bytes8, number3};
-use base::written::Written;
+use base::little::{bytes, number};
 use lines::read_pairs;
 
 // As many pairs as a line can hold.
@@ -30,52 +28,50 @@ pub(crate) struct Said {
     pub(crate) room: usize,
 }
 
-fn alone(number: u64) -> Said {
+fn alone(number: u64) -> Said
+    ensures { result.room ≤ 0 }
+{
     Said { number, room: 0 }
 }
 
-fn asked(question: &[u8], lent: &mut [u8]) -> Said {
-    if question.len() < ARGUMENTS {
+fn asked(question: &[u8], lent: &mut [u8]) -> Said
+    ensures { result.room ≤ length lent.old }
+{
+    let [function, low, high, arguments @ ..] = question else {
         return alone(BAD);
-    }
-    let room = number3(question[1], question[2], 0) as usize;
+    };
+    let room = number([*low, *high, 0, 0]) as usize;
     if lent.len() < room {
         return alone(BAD);
     }
     Said {
-        number: call(question[0], &question[ARGUMENTS..], &mut lent[0..room]),
+        number: call(*function, arguments, &mut lent[..room]),
         room,
     }
 }
 
 // FNV-1a, 32 bits.
-fn hashed_byte(byte: u8, hash: u64) -> u64 {
-    (hash ^ byte as u64) % 0x1_0000_0000 * 16777619 % 0x1_0000_0000
-}
-
-fn hashed(bytes: &[u8], end: usize, before: u64) -> u64 {
+fn hashed(bytes: &[u8], before: u32) -> u32 {
     let mut hash = before;
-    if end <= bytes.len() {
-        for i in 0..end {
-            hash = hashed_byte(bytes[i], hash);
-        }
+    for byte in bytes {
+        hash = (hash ^ *byte as u32).wrapping_mul(16777619);
     }
     hash
 }
 
 // The hash of the answers so far, and of the one to this question.
-fn hashed_answer(question: &[u8], before: u64) -> u64 {
+fn hashed_answer(question: &[u8], before: u32) -> u32 {
     let mut lent = [FILL; LENT];
     let said = asked(question, &mut lent);
-    let hash = hashed(&bytes8(said.number as usize), 8, before);
-    hashed(&lent, said.room, hash)
+    let hash = hashed(&bytes::<8>(said.number), before);
+    hashed(&lent[..said.room], hash)
 }
 
 // No letters: all bytes.
 fn base_of(letters: &[u8]) -> usize
     ensures { 0 < result }
 {
-    if letters.len() == 0 {
+    if letters.is_empty() {
         return 256;
     }
     letters.len()
@@ -83,104 +79,64 @@ fn base_of(letters: &[u8]) -> usize
 
 fn letter(letters: &[u8], i: usize) -> u8 {
     let n = i % base_of(letters);
-    if n < letters.len() {
-        return letters[n];
-    }
-    (n % 256) as u8
-}
-
-fn store(byte: u8, at: usize, question: &mut [u8]) {
-    if at < question.len() {
-        question[at] = byte;
+    match letters.get(n) {
+        Some(letter) => *letter,
+        None => (n % 256) as u8,
     }
 }
 
-// The bytes from `begin` to `end` are the digits of `i` in letters, the last the lowest.
-fn spelled(i: usize, letters: &[u8], begin: usize, end: usize, question: &mut [u8]) {
+// The digits of `i` in letters, the last the lowest.
+fn spelled(i: usize, letters: &[u8], digits: &mut [u8]) {
     let mut rest = i;
-    let mut at = end;
-    while begin < at {
-        at -= 1;
-        store(letter(letters, rest), at, question);
+    for digit in digits.iter_mut().rev() {
+        *digit = letter(letters, rest);
         rest /= base_of(letters);
     }
 }
 
-fn times(a: usize, b: usize) -> usize {
-    if 0xFFFF_FFFF < a {
-        return 0;
-    }
-    if 0xFFFF_FFFF < b {
-        return 0;
-    }
-    a * b
-}
-
-// How many questions a sweep has, none where not one to three bytes run.
-fn turns(base: usize, running: u8) -> usize {
-    match running {
-        1 => base,
-        2 => times(base, base),
-        3 => times(base, times(base, base)),
-        _ => 0,
-    }
-}
-
-fn hash_of(count: usize, letters: &[u8], begin: usize, end: usize, question: &mut [u8]) -> u64 {
-    let mut hash: u64 = 2166136261;
-    for i in 0..count {
-        spelled(i, letters, begin, end, question);
-        hash = hashed_answer(question, hash);
-    }
-    hash
-}
-
-// From the place on as many bytes of the question run as are said. A longer question than is swept is none.
+// From the place on as many bytes of the question run as are said, one to three. A longer question than is swept is none.
 fn run(place: u8, running: u8, letters: &[u8], question: &mut [u8]) -> u64 {
-    let begin = ARGUMENTS + wide(place);
-    let end = begin + wide(running);
+    let begin = ARGUMENTS + place as usize;
+    let end = begin + running as usize;
     if question.len() < end {
         return BAD;
     }
     if SWEPT < question.len() {
         return BAD;
     }
-    let count = turns(base_of(letters), running);
-    if count == 0 {
+    if !matches!(running, 1..=3) {
         return BAD;
     }
-    hash_of(count, letters, begin, end, question)
+    let mut hash: u32 = 2166136261;
+    for i in 0..base_of(letters).saturating_pow(running as u32) {
+        spelled(i, letters, &mut question[begin..end]);
+        hash = hashed_answer(question, hash);
+    }
+    hash as u64
 }
 
-// The hash of the answers to all questions of a sweep of `n` bytes.
-fn swept(bytes: [u8; PAIRS], n: usize) -> u64 {
-    let begin = LETTERS + wide(bytes[3]);
-    if PAIRS < n {
+// The hash of the answers to all questions of a sweep.
+fn swept(sweep: &mut [u8]) -> u64 {
+    let &mut [_, place, running, letters, ..] = sweep else {
         return BAD;
-    }
-    if n < begin {
+    };
+    let Some((head, question)) = sweep.split_at_mut_checked(LETTERS + letters as usize) else {
         return BAD;
-    }
-    let mut copy = bytes;
-    run(
-        bytes[1],
-        bytes[2],
-        &bytes[LETTERS..begin],
-        &mut copy[begin..n],
-    )
+    };
+    run(place, running, &head[LETTERS..], question)
 }
 
 // What is answered to a line. The lent bytes are all `FILL`.
-pub(crate) fn answer(line: &[u8], lent: &mut [u8]) -> Said {
-    let mut bytes = [0u8; PAIRS];
-    let Written::Length(n) = read_pairs(line, &mut bytes) else {
+pub(crate) fn answer(line: &[u8], lent: &mut [u8]) -> Said
+    ensures { result.room ≤ length lent.old }
+{
+    let mut bytes = [0; PAIRS];
+    let Ok(n) = read_pairs(line, &mut bytes) else {
         return alone(BAD);
     };
-    if bytes[0] == SWEEP {
-        return alone(swept(bytes, n));
+    let question = &mut bytes[..n];
+    if let [SWEEP, ..] = question {
+        return alone(swept(question));
     }
-    if PAIRS < n {
-        return alone(BAD);
-    }
-    asked(&bytes[0..n], lent)
+    asked(question, lent)
 }
