@@ -31,6 +31,9 @@ channel_access_parse_unique κs a ok z z' w w' q q' = (said_one z z' (both q q')
 pub channel_access_is_disabled_unique : Unique p.get_channel_access.ChannelAccess.is_disabled.Kinds.ps p.get_channel_access.ChannelAccess.is_disabled.Kinds.r p.get_channel_access.ChannelAccess.is_disabled.Reads.Asked p.get_channel_access.ChannelAccess.is_disabled.Reads.Learnt
 channel_access_is_disabled_unique κs a ok z z' w w' q q' = (both q q', refl)
 
+pub channel_access_bytes_unique : Unique p.get_channel_access.ChannelAccess.bytes.Kinds.ps p.get_channel_access.ChannelAccess.bytes.Kinds.r p.get_channel_access.ChannelAccess.bytes.Reads.Asked p.get_channel_access.ChannelAccess.bytes.Reads.Learnt
+channel_access_bytes_unique κs a ok z z' w w' q q' = (said_one z z' (both q q'), refl)
+
 pub channel_access_write_unique : Unique p.get_channel_access.ChannelAccess.write.Kinds.ps p.get_channel_access.ChannelAccess.write.Kinds.r p.get_channel_access.ChannelAccess.write.Reads.Asked p.get_channel_access.ChannelAccess.write.Reads.Learnt
 channel_access_write_unique κs a ok z z' w w' q q' = writer 1 q q'
 

@@ -120,9 +120,9 @@ impl ChannelAccess {
         matches!(self.access_mode, ChannelAccessMode::Disabled)
     }
 
-    // The response's data.
-    pub fn write(self, out: &mut [u8]) -> Result<usize, Refusal>
-        ensures { Writes (access_bytes self) result out.old out.new }
+    // The two bytes of a response.
+    pub fn bytes(self) -> Result<[u8; 2], Refusal>
+        ensures { said result ≡ access_bytes self }
     {
         let mode = self.access_mode.field()?;
         let limit = self.privilege_level_limit.field()?;
@@ -130,7 +130,14 @@ impl ChannelAccess {
             | (self.user_level_auth_disabled as u8) << 3
             | (self.per_msg_auth_disabled as u8) << 4
             | (self.alerting_disabled as u8) << 5;
-        place(&[first, limit], out)
+        Ok([first, limit])
+    }
+
+    // The response's data.
+    pub fn write(self, out: &mut [u8]) -> Result<usize, Refusal>
+        ensures { Writes (access_bytes self) result out.old out.new }
+    {
+        place(&self.bytes()?, out)
     }
 }
 

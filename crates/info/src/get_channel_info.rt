@@ -97,9 +97,8 @@ impl ChannelInfo {
         })
     }
 
-    // The response's data.
-    pub fn write(self, out: &mut [u8]) -> Result<usize, Refusal>
-        ensures { Writes (info_bytes self) result out.old out.new }
+    fn bytes(self) -> Result<[u8; 9], Refusal>
+        ensures { said result ≡ info_bytes self }
     {
         let channel = self.channel.field()?;
         let medium = self.medium_type.field()?;
@@ -110,12 +109,18 @@ impl ChannelInfo {
         if 0xFF_FFFF < vendor {
             return Err(Refusal::NoForm);
         }
+        let sessions = session * 64 + active;
         let [low, middle, high] = bytes::<3>(vendor as u64);
         let AuxChannelInfo { byte1, byte2 } = self.aux_info;
-        let sessions = session * 64 + active;
-        let response = [
+        Ok([
             channel, medium, protocol, sessions, low, middle, high, byte1, byte2,
-        ];
-        place(&response, out)
+        ])
+    }
+
+    // The response's data.
+    pub fn write(self, out: &mut [u8]) -> Result<usize, Refusal>
+        ensures { Writes (info_bytes self) result out.old out.new }
+    {
+        place(&self.bytes()?, out)
     }
 }

@@ -129,9 +129,8 @@ impl SetChannelAccess {
     {
         let mode = self.mode_pair.field()?;
         let limit = self.limit_pair.field()?;
-        let mut parts = [0; 2];
-        self.access.write(&mut parts)?;
-        Ok([parts[0] | mode << 6, parts[1] | limit << 6])
+        let [first, second] = self.access.bytes()?;
+        Ok([first | mode << 6, second | limit << 6])
     }
 
     // The request's data.
@@ -139,8 +138,8 @@ impl SetChannelAccess {
         ensures { Writes (command_bytes self) result out.old out.new }
     {
         let number = self.channel.field()?;
-        let parts = self.parts()?;
-        place(&[number, parts[0], parts[1]], out)
+        let [mode, limit] = self.parts()?;
+        place(&[number, mode, limit], out)
     }
 
     // The command whose request this is: takes only what some command writes.

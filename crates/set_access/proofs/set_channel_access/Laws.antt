@@ -9,24 +9,18 @@ use native.Mathlib.Omega.{arith}
 use borrow.Author.Tests.{ltb-true, ltb-false}
 use lib.Bits.{bit_or, or_shifted_r}
 use lib.Dec.{eqb, ltb, lit<, lit≤}
-use lib.ListN.{get_or-eq_default, length, drop}
+use lib.ListN.{get_or-eq_default, drop}
 use lib.Pow.{field, mod-mod-pow, mod-pow-add, shl_exact}
 use mir.Val.{bool_byte}
 use Rattle.base.specs.Connection.{channel_of, channel_field}
 use Rattle.base.specs.Field.{byte, bits, flag, within, Bytes}
-use Rattle.base.specs.Outcome.{Outcome, accepted, refused, ◌>>=◌}
-use Rattle.base.specs.Refusal.{refusal}
-use Rattle.base.specs.Written.{Writes, written, length_of}
-use Rattle.base.specs.declared.refusal.Refusal.{Refusal}
-use Rattle.std.specs.Prelude.{Err, Ok}
+use Rattle.base.specs.Outcome.{Outcome, accepted, ◌>>=◌}
 use Rattle.base.proofs.Outcome.{apart, steps, Only, only_steps, ranged}
 use Rattle.base.proofs.Rows.{NoForm, nine, Strict, strict}
 use Rattle.base.proofs.connection.Laws.{begins_only, channel_iff, channel_small}
 use Rattle.base.proofs.field.Laws.{below, Kept, one, never, so_long}
 use Rattle.base.proofs.little.Laws.{a_byte}
-use Rattle.base.proofs.written.Laws.{filled}
 use Rattle.access.specs.GetChannelAccess.{access_bytes, access_fields, access_of}
-use Rattle.access.specs.declared.get_channel_access.ChannelAccess.{ChannelAccess}
 use Rattle.access.proofs.get_channel_access.Laws.{access_back, access_bytes_lem, access_given, access_only, access_two, limit_given, mode_given, first}
 use Rattle.set_access.specs.SetChannelAccess.{command, command_bytes, command_of, pairs, pair_of, pair_field, pair_in, parts_bytes, pair_value}
 use Rattle.set_access.specs.declared.set_channel_access.AccessPair.{AccessPair}
@@ -68,26 +62,6 @@ pair_iff byte p = (go (ltb (bits 6 2 byte) 3) refl, λ e. let z = ((pair_kept p)
 -- the machine's x | pair << 6, where bits 7:6 are clear in x
 pub set_pair : (pair x : ℕ) → pair < 3 → x < 64 → bit_or x (pair * 64 % 256) ≡ x + pair * 2 ^ 6
 set_pair pair x h p = rw (shl_exact {a = pair} 2 6 8 (omega arith) (lit≤ tt)) (or_shifted_r pair 6 x p ∙ add_comm (pair * 2 ^ 6) x)
-
--- what the response's writer leaves in two bytes, and what it says where it leaves nothing
-pub shown : (a : ChannelAccess) {n : ℕ} {after : List ℕ} → Writes (access_bytes a) (Ok n) (0 ∷ 0 ∷ []) after → access_bytes a ≡ accepted after
-unfolding written length_of
-shown a w = go (access_bytes a) (λ s e. (access_two a e).0) w
-  where
-    go : (x : Outcome (List ℕ)) → ((s : List ℕ) → x ≡ accepted s → length s ≡ 2) → {n : ℕ} {after : List ℕ} → Writes x (Ok n) (0 ∷ 0 ∷ []) after → x ≡ accepted after
-    go (accepted s) two w = rw (filled w (two s refl))
-    go (refused n v) two w = absurd (apart (sym w.answers))
-
-pub not_shown : (a : ChannelAccess) {r : Refusal} {after : List ℕ} → Writes (access_bytes a) (Err r) (0 ∷ 0 ∷ []) after → access_bytes a ≡ refusal r
-unfolding written length_of
-not_shown a w = go (access_bytes a) (λ s e. (access_two a e).0) w
-  where
-    alike : (r : Refusal) {n : ℕ} {v : List ℕ} → ◌≡◌ {A = Outcome ℕ} (refusal r) (refused n v) → ◌≡◌ {A = Outcome (List ℕ)} (refused n v) (refusal r)
-    alike r e = cc
-
-    go : (x : Outcome (List ℕ)) → ((s : List ℕ) → x ≡ accepted s → length s ≡ 2) → {r : Refusal} {after : List ℕ} → Writes x (Err r) (0 ∷ 0 ∷ []) after → x ≡ refusal r
-    go (accepted s) two w = absurd (apart (rw (two s refl) at w.answers))
-    go (refused n v) two {r} w = alike r w.answers
 
 -- The fields of bytes 1 and 2, written again: what stands below the pairs.
 

@@ -8,7 +8,7 @@ returns-in_err-number c =
     let e : c.from_residual.result ≡ Err c.in_err-number.field-0.0 = search rules in
     rw e (refusing c.in_err-number.field-0.0 c.args.out.now (rw (← c.in_err-number.ensures)))
 
-pub returns-in_err-parts : goal.returns-in_err-parts
-returns-in_err-parts c =
-    let e : c.from_residual-in_err-parts.result ≡ Err c.in_err-parts.field-0.0 = search rules in
-    rw e (refusing c.in_err-parts.field-0.0 c.args.out.now (rw (← c.in_ok-number.ensures, ← c.in_err-parts.ensures)))
+pub returns-in_err-mode : goal.returns-in_err-mode
+returns-in_err-mode c =
+    let e : c.from_residual-in_err-mode.result ≡ Err c.in_err-mode.field-0.0 = search rules in
+    rw e (refusing c.in_err-mode.field-0.0 c.args.out.now (rw (← c.in_ok-number.ensures, ← c.in_err-mode.ensures)))
