@@ -48,17 +48,16 @@ impl GetChannelAuthenticationCapabilities {
     pub fn read(request: &[u8]) -> Result<Self, Refusal>
         ensures { said result ≡ command_of request.now }
     {
-        if request.len() != 2 {
+        let &[first, second] = request else {
             return Err(Refusal::NotARequest);
-        }
-        let first = request[0];
+        };
         if first < 0x80 {
             return Err(Refusal::NotARequest);
         }
         let Ok(channel) = Channel::new(first - 0x80) else {
             return Err(Refusal::NotARequest);
         };
-        let Some(level) = PrivilegeLevel::numbered(request[1]) else {
+        let Some(level) = PrivilegeLevel::numbered(second) else {
             return Err(Refusal::NotARequest);
         };
         Ok(Self::new(channel, level))
