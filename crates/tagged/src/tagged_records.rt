@@ -1,5 +1,5 @@
 // The standard's cipher suite records, read strictly and written: document 02, C-14; IPMI 2.0, Table 22-18.
-ghost use Rattle.std.specs.Prelude.{◌≡◌, [], ◌∷◌, ◌++◌, suc, ◌+◌, ◌<◌, ◌≤◌, length, take, true, if◌then◌else◌};
+ghost use Rattle.std.specs.Prelude.{◌≡◌, Some, None, [], ◌∷◌, ◌++◌, suc, ◌+◌, ◌<◌, ◌≤◌, length, take, true, if◌then◌else◌};
 ghost use Rattle.tagged.specs.Format.{all_fit, confidentiality_tag, integrity_tag, own_start, owner_fits, standard_start};
 ghost use Rattle.tagged.specs.TaggedRecords.{body_at, count_of, end_of, entry, listing_of, numbers_in, reach, record_at, retagged, strict_numbers_of, strict_step_at, suite_from, suite_written};
 ghost use Rattle.base.specs.Choice.{◌=?◌};
@@ -73,11 +73,9 @@ fn reach(list: &[u8], tag: u8, at: usize) -> usize
 // A record from its authentication byte on. The place that `BadRecord` carries is the first byte's from which on no bytes make a
 // sequence of records, or the length if only the end is missing.
 fn body_at(list: &[u8], owner: Owner, number: u8, at: usize) -> Result<TaggedRecord, Refusal>
+    requires { at < length list.now }
     ensures { said result ≡ body_at list.now owner number at }
 {
-    if list.len() <= at {
-        return Err(Refusal::BadRecord(list.len()));
-    }
     let authentication = list[at];
     let integrity = at + 1;
     if authentication / NUMBERS != AUTHENTICATION {
@@ -97,33 +95,18 @@ fn body_at(list: &[u8], owner: Owner, number: u8, at: usize) -> Result<TaggedRec
 
 // The record that begins at a position.
 fn record_at(list: &[u8], position: usize) -> Result<TaggedRecord, Refusal>
+    requires { position < length list.now }
     ensures { said result ≡ record_at list.now position }
 {
-    if list.len() <= position {
-        return Err(Refusal::BadRecord(position));
-    }
-    let left = list.len() - position;
-    match list[position] {
-        STANDARD => {
-            if left <= STANDARD_START {
-                return Err(Refusal::BadRecord(list.len()));
-            }
-            let number = list[position + 1];
+    match &list[position..] {
+        &[STANDARD, number, _, ..] => {
             body_at(list, Owner::Standard, number, position + STANDARD_START)
         }
-        OWN => {
-            if left <= OWN_START {
-                return Err(Refusal::BadRecord(list.len()));
-            }
-            let number = list[position + 1];
-            let vendor = little::number([
-                list[position + 2],
-                list[position + 3],
-                list[position + 4],
-                0,
-            ]);
+        &[OWN, number, low, middle, high, _, ..] => {
+            let vendor = little::number([low, middle, high, 0]);
             body_at(list, Owner::Vendor(vendor), number, position + OWN_START)
         }
+        &[STANDARD | OWN, ..] => Err(Refusal::BadRecord(list.len())),
         _ => Err(Refusal::BadRecord(position)),
     }
 }
@@ -165,17 +148,15 @@ fn is_plain(list: &[u8], at: usize) -> bool
     STANDARD <= list[at + PLAIN]
 }
 
-// The bytes before the authentication byte, 0 where no record begins so.
-fn start_of(first: u8) -> usize
-    ensures { result ≡ (if first =? standard_start then 2 else if first =? own_start then 5 else 0) }
+// The bytes before the authentication byte, none where no record begins so.
+fn start_of(first: u8) -> Option<usize>
+    ensures { result ≡ (if first =? standard_start then Some 2 else if first =? own_start then Some 5 else None) }
 {
-    if first == STANDARD {
-        return STANDARD_START;
+    match first {
+        STANDARD => Some(STANDARD_START),
+        OWN => Some(OWN_START),
+        _ => None,
     }
-    if first == OWN {
-        return OWN_START;
-    }
-    0
 }
 
 // The end of the record that begins at a position. No record is made; one body, so that it is compiled into the loops.
@@ -186,10 +167,7 @@ fn end_at(list: &[u8], position: usize) -> Result<usize, Refusal>
     if is_plain(list, position) {
         return Ok(position + PLAIN);
     }
-    let start = start_of(list[position]);
-    if start == 0 {
-        return Err(Refusal::BadRecord(position));
-    }
+    let start = start_of(list[position]).ok_or(Refusal::BadRecord(position))?;
     if list.len() - position <= start {
         return Err(Refusal::BadRecord(list.len()));
     }
@@ -218,13 +196,12 @@ pub fn count(list: &[u8]) -> Result<usize, Refusal>
 pub fn entry(suite: TaggedRecord) -> [u8; ENTRY]
     ensures { result ≡ entry suite }
 {
-    let number = suite.number;
-    let owner = suite.owner;
+    let TaggedRecord { owner, number, .. } = suite;
     match owner {
         Owner::Standard => [number, 0, 0, 0, 0],
         Owner::Vendor(vendor) => {
-            let v = little::bytes::<3>(vendor as u64);
-            [number, 1, v[0], v[1], v[2]]
+            let [low, middle, high] = little::bytes::<3>(vendor as u64);
+            [number, 1, low, middle, high]
         }
     }
 }
@@ -372,9 +349,9 @@ pub fn write(
             out,
         ),
         Owner::Vendor(vendor) => {
-            let v = little::bytes::<3>(vendor as u64);
+            let [low, middle, high] = little::bytes::<3>(vendor as u64);
             write_parts(
-                &[OWN, number, v[0], v[1], v[2], authentication],
+                &[OWN, number, low, middle, high, authentication],
                 integrity,
                 confidentiality,
                 out,

@@ -108,9 +108,6 @@ module _ (tag : ℕ) (list : List ℕ) (at : ℕ) (b : Bytes list) (h : at ≤ l
 -- A record from its authentication byte on.
 
 module _ (list : List ℕ) (owner : Owner) (number at : ℕ) where
-  pub body_missing : length list ≤ at → bad_record (length list) ≡ body_at list owner number at
-  body_missing h = rw (le-ltb at (length list) h)
-
   pub body_wrong : at < length list → (tag_in (byte at list) ≡ authentication_tag → ⊥) → bad_record at ≡ body_at list owner number at
   body_wrong h ne = rw (lt-ltb at (length list) h, ne_eqb (tag_in (byte at list)) authentication_tag ne)
 
@@ -256,22 +253,22 @@ body_ends list owner number at = go (ltb at (length list)) (eqb (tag_in (byte at
     go false y = refl
 
 -- by the bytes before the authentication byte
-module _ (list : List ℕ) (p start : ℕ) (e : start ≡ (if eqb (byte p list) standard_start then 2 else if eqb (byte p list) own_start then 5 else 0)) where
-  pub started_none : start ≡ 0 → bad_record p ≡ end_of (record_at list p)
+module _ (list : List ℕ) (p : ℕ) {start : Option ℕ} (e : start ≡ (if eqb (byte p list) standard_start then Some 2 else if eqb (byte p list) own_start then Some 5 else None)) where
+  pub started_none : start ≡ None → bad_record p ≡ end_of (record_at list p)
   started_none z = go (eqb (byte p list) standard_start) (eqb (byte p list) own_start) refl refl e
     where
-      go : (x y : Bool) → eqb (byte p list) standard_start ≡ x → eqb (byte p list) own_start ≡ y → start ≡ (if x then 2 else if y then 5 else 0) → bad_record p ≡ end_of (record_at list p)
-      go true y f g e = absurd (omega arith)
-      go false true f g e = absurd (omega arith)
+      go : (x y : Bool) → eqb (byte p list) standard_start ≡ x → eqb (byte p list) own_start ≡ y → start ≡ (if x then Some 2 else if y then Some 5 else None) → bad_record p ≡ end_of (record_at list p)
+      go true y f g e = let z : ◌≡◌ {A = ℕ} 0 1 = cc in absurd (omega arith)
+      go false true f g e = let z : ◌≡◌ {A = ℕ} 0 1 = cc in absurd (omega arith)
       go false false f g e = ap end_of (sym (at_other list p (eqb-false _ _ f) (eqb-false _ _ g)))
 
-  pub started_some : (start ≡ 0 → ⊥) → body_end list (p + start) ≡ end_of (record_at list p)
-  started_some z = go (eqb (byte p list) standard_start) (eqb (byte p list) own_start) refl refl e
+  pub started_some : {n : ℕ} → start ≡ Some n → body_end list (p + n) ≡ end_of (record_at list p)
+  started_some {n} z = go (eqb (byte p list) standard_start) (eqb (byte p list) own_start) refl refl e
     where
-      go : (x y : Bool) → eqb (byte p list) standard_start ≡ x → eqb (byte p list) own_start ≡ y → start ≡ (if x then 2 else if y then 5 else 0) → body_end list (p + start) ≡ end_of (record_at list p)
-      go true y f g e = rw e (body_ends list Standard (byte (p + 1) list) (p + 2) ∙ sym (ap end_of (at_standard list p (eqb-true _ _ f))))
-      go false true f g e = rw e (body_ends list (Vendor (little (byte (p + 2) list ∷ byte (p + 3) list ∷ byte (p + 4) list ∷ []))) (byte (p + 1) list) (p + 5) ∙ sym (ap end_of (at_own list p (eqb-true _ _ g) refl)))
-      go false false f g e = absurd (z e)
+      go : (x y : Bool) → eqb (byte p list) standard_start ≡ x → eqb (byte p list) own_start ≡ y → start ≡ (if x then Some 2 else if y then Some 5 else None) → body_end list (p + n) ≡ end_of (record_at list p)
+      go true y f g e = let k : n ≡ 2 = cc in rw k (body_ends list Standard (byte (p + 1) list) (p + 2) ∙ sym (ap end_of (at_standard list p (eqb-true _ _ f))))
+      go false true f g e = let k : n ≡ 5 = cc in rw k (body_ends list (Vendor (little (byte (p + 2) list ∷ byte (p + 3) list ∷ byte (p + 4) list ∷ []))) (byte (p + 1) list) (p + 5) ∙ sym (ap end_of (at_own list p (eqb-true _ _ g) refl)))
+      go false false f g e = let z : ◌≡◌ {A = ℕ} 0 1 = cc in absurd (omega arith)
 
 pub no : {A : Type 0} → false ≡ true → A
 no e = let z : ◌≡◌ {A = ℕ} 0 1 = cc in absurd (omega arith)

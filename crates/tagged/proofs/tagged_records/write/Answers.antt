@@ -48,4 +48,4 @@ returns-in-Vendor c =
     c.if-authentication-ge-NUMBERS.false
     (sym c.all_fit.ensures ∙ c.if-not-all_fit.false)
     (sym c.all_fit-2.ensures ∙ c.if-not-all_fit-2.false) in
-    rw (w, c.in-Vendor.is) (rw c.bytes-v.ensures at c.write_parts-in-Vendor.ensures)
+    rw (w, c.in-Vendor.is) (rw c.bytes.ensures at c.write_parts-in-Vendor.ensures)
