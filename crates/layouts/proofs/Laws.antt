@@ -4,19 +4,17 @@ use mathlib.Core.List.{List, [], ◌∷◌, ◌++◌}
 use mathlib.Core.Path.{◌≡◌, refl, ap}
 use mir.Val.{bool_byte}
 use Prim.Native.Nat.{ℕ, ◌+◌}
-use native.Mathlib.Omega.{arith}
-use lib.Dec.{eqb, ltb, lit<}
+use lib.Dec.{ltb, lit<}
 use lib.ListN.{length, drop}
 use lib.Seq.{get_or-drop}
 use Rattle.std.specs.Prelude.{if◌then◌else◌}
 use Rattle.base.specs.Connection.{channel_field, channel_of}
-use Rattle.base.specs.Field.{Bytes, byte, bits, flag}
+use Rattle.base.specs.Field.{Bytes, byte, bits}
 use Rattle.base.specs.Little.{little, little_bytes}
 use Rattle.base.specs.Outcome.{Outcome, accepted, refused, ◌>>=◌, faults_as}
 use Rattle.base.specs.declared.connection.Channel.{Channel}
 use Rattle.base.proofs.Outcome.{apart, steps}
 use Rattle.base.proofs.connection.Laws.{channel_iff, value_new}
-use Rattle.base.proofs.field.Laws.{below}
 use Rattle.base.proofs.little.Laws.{a_byte, bytes_back}
 use Rattle.access.specs.GetChannelAccess.{access_bytes, access_fields, access_of, limit_field, mode_field}
 use Rattle.access.specs.declared.get_channel_access.ChannelAccess.{ChannelAccess}
@@ -26,13 +24,10 @@ use Rattle.info.specs.declared.get_channel_info.ChannelInfo.{ChannelInfo}
 use Rattle.media.proofs.get_channel_info.Laws.{medium_value_lem, protocol_value_lem, session_value_lem}
 use Rattle.set_access.specs.SetChannelAccess.{command_bytes, command_for, pair_of, parts_bytes}
 use Rattle.set_access.specs.declared.set_channel_access.SetChannelAccess.{SetChannelAccess}
-use Rattle.set_access.proofs.set_channel_access.Laws.{pair_kept, pair_field_lem, parts_are}
+use Rattle.set_access.proofs.set_channel_access.Laws.{is_bit, pair_kept, pair_field_lem, parts_are}
 use Rattle.layouts.specs.Layouts.{access_layout, access_record, info_layout, is_set, set_access_layout, settings_layout, settings_record}
 
 -- From a response: each byte of the record is the response's own bits.
-
-is_bit : (at n : ℕ) → bool_byte (flag at n) ≡ bits at 1 n
-is_bit at n = below 2 (λ b. bool_byte (eqb b 1)) (λ b. b) refl (bits at 1 n) (omega arith)
 
 pub access_laid : (s : List ℕ) (a : ChannelAccess) → access_of s ≡ accepted a
     → access_layout a ≡ bits 0 3 (byte 0 s) ∷ bits 5 1 (byte 0 s) ∷ bits 4 1 (byte 0 s) ∷ bits 3 1 (byte 0 s) ∷ bits 0 4 (byte 1 s) ∷ []

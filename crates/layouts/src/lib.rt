@@ -93,7 +93,6 @@ pub fn info_layout(info: ChannelInfo) -> [u8; 11]
 pub fn capabilities_layout(c: ChannelAuthenticationCapabilities) -> [u8; 18]
     ensures { result ≡ capabilities_layout c }
 {
-    let id = c.oem_id;
     [
         c.channel_number,
         c.oem_proprietary as u8,
@@ -109,9 +108,9 @@ pub fn capabilities_layout(c: ChannelAuthenticationCapabilities) -> [u8; 18]
         c.anonymous_login_enabled as u8,
         c.ipmi2_connections_supported as u8,
         c.ipmi15_connections_supported as u8,
-        id[0],
-        id[1],
-        id[2],
+        c.oem_id[0],
+        c.oem_id[1],
+        c.oem_id[2],
         c.oem_auxiliary_data,
     ]
 }

@@ -1,16 +1,13 @@
 -- Laws of Set Channel Access: the command, written and read.
 use mathlib.Core.Logic.{◌↔◌}
-use mathlib.Core.Path.{◌≡◌, refl, sym, ◌∙◌}
+use mathlib.Core.Path.{◌≡◌, refl, ◌∙◌}
 use mathlib.Core.Bool.{Bool, true, false}
 use mathlib.Core.List.{List, [], ◌∷◌}
-use Prim.Native.Nat.{ℕ, ◌+◌, ◌*◌, ◌%◌, ◌^◌, ◌≤◌, ◌<◌}
-use native.Mathlib.Nat.{add_comm, div-one}
+use Prim.Native.Nat.{ℕ, ◌+◌, ◌*◌, ◌^◌, ◌≤◌, ◌<◌}
 use native.Mathlib.Omega.{arith}
 use borrow.Author.Tests.{ltb-true, ltb-false}
-use lib.Bits.{bit_or, or_shifted_r}
-use lib.Dec.{eqb, ltb, lit<, lit≤}
+use lib.Dec.{eqb, ltb, lit<}
 use lib.ListN.{get_or-eq_default, drop}
-use lib.Pow.{field, mod-mod-pow, mod-pow-add, shl_exact}
 use mir.Val.{bool_byte}
 use Rattle.base.specs.Connection.{channel_of, channel_field}
 use Rattle.base.specs.Field.{byte, bits, flag, within, Bytes}
@@ -59,39 +56,29 @@ pair_iff byte p = (go (ltb (bits 6 2 byte) 3) refl, λ e. let z = ((pair_kept p)
         rw (← z) g
     go false h e = absurd (apart (rw (pair_reserved (bits 6 2 byte) (ltb-false (bits 6 2 byte) 3 h)) at e))
 
--- the machine's x | pair << 6, where bits 7:6 are clear in x
-pub set_pair : (pair x : ℕ) → pair < 3 → x < 64 → bit_or x (pair * 64 % 256) ≡ x + pair * 2 ^ 6
-set_pair pair x h p = rw (shl_exact {a = pair} 2 6 8 (omega arith) (lit≤ tt)) (or_shifted_r pair 6 x p ∙ add_comm (pair * 2 ^ 6) x)
-
 -- The fields of bytes 1 and 2, written again: what stands below the pairs.
 
-is_bit : (at n : ℕ) → bool_byte (flag at n) ≡ bits at 1 n
+pub is_bit : (at n : ℕ) → bool_byte (flag at n) ≡ bits at 1 n
 is_bit at n = below 2 (λ b. bool_byte (eqb b 1)) (λ b. b) refl (bits at 1 n) (omega arith)
-
-bit_next : (n at : ℕ) → bits 0 at n + bits at 1 n * 2 ^ at ≡ bits 0 (1 + at) n
-bit_next n at = rw div-one (add_comm (n % 2 ^ at) (bits at 1 n * 2 ^ at) ∙ sym (mod-pow-add n 1 at))
 
 again : (y z : ℕ) → access_bytes (access_fields y z) ≡ accepted (bits 0 6 y ∷ bits 0 4 z ∷ [])
 again y z =
+    let b4 : bits 0 3 y + bits 3 1 y * 2 ^ 3 ≡ bits 0 4 y = omega arith in
+    let b5 : bits 0 4 y + bits 4 1 y * 2 ^ 4 ≡ bits 0 5 y = omega arith in
+    let b6 : bits 0 5 y + bits 5 1 y * 2 ^ 5 ≡ bits 0 6 y = omega arith in
     rw
-    (mode_given (bits 0 3 y) (omega arith), limit_given (bits 0 4 z) (omega arith), is_bit 3 y, is_bit 4 y, is_bit 5 y, bit_next y 3, bit_next y 4, bit_next y 5)
+    (mode_given (bits 0 3 y) (omega arith), limit_given (bits 0 4 z) (omega arith), is_bit 3 y, is_bit 4 y, is_bit 5 y, b4, b5, b6)
 
--- a field lies in the low bits of its byte
-low_bits : (n at width more : ℕ) → bits at width (n % 2 ^ (more + (width + at))) ≡ bits at width n
-low_bits n at width more = sym (field (n % 2 ^ (more + (width + at))) width at) ∙ rw (mod-mod-pow n more (width + at)) (field n width at)
-
--- so a pair above them changes none
+-- a pair above the fields of a byte changes none
 beside : (f l m n : ℕ) → f < 64 → l < 16 → access_fields (f + m * 2 ^ 6) (l + n * 2 ^ 6) ≡ access_fields f l
 beside f l m n h g =
     let y = f + m * 2 ^ 6 in
     let z = l + n * 2 ^ 6 in
-    let first : y % 2 ^ 6 ≡ f = omega arith in
-    let second : z % 2 ^ 6 ≡ l = omega arith in
-    let b0 : bits 0 3 y ≡ bits 0 3 f = sym (low_bits y 0 3 3) ∙ rw first in
-    let b3 : bits 3 1 y ≡ bits 3 1 f = sym (low_bits y 3 1 2) ∙ rw first in
-    let b4 : bits 4 1 y ≡ bits 4 1 f = sym (low_bits y 4 1 1) ∙ rw first in
-    let b5 : bits 5 1 y ≡ bits 5 1 f = sym (low_bits y 5 1 0) ∙ rw first in
-    let l0 : bits 0 4 z ≡ bits 0 4 l = sym (low_bits z 0 4 2) ∙ rw second in
+    let b0 : bits 0 3 y ≡ bits 0 3 f = omega arith in
+    let b3 : bits 3 1 y ≡ bits 3 1 f = omega arith in
+    let b4 : bits 4 1 y ≡ bits 4 1 f = omega arith in
+    let b5 : bits 5 1 y ≡ bits 5 1 f = omega arith in
+    let l0 : bits 0 4 z ≡ bits 0 4 l = omega arith in
     rw (b0, b3, b4, b5, l0)
 
 -- the reader on three bytes
