@@ -1,12 +1,19 @@
 -- What each entry answers, by the tests that the code makes.
 use Prim.Native.Nat.{ℕ, suc, ◌+◌, ◌-◌, ◌*◌, ◌≤◌, ◌<◌}
-use mathlib.Core.Path.{◌≡◌, sym, ap, ◌∙◌}
+use mathlib.Core.Path.{◌≡◌, refl, sym, ap, ◌∙◌}
+use mathlib.Core.Logic.{⊎_elim}
 use mathlib.Core.List.{List, [], ◌∷◌}
 use mathlib.Core.Bool.{true, false}
 use native.Mathlib.Omega.{arith}
 use native.Mathlib.Numerals.{add-one}
-use lib.ListN.{length, get_or, set, take}
-use borrow.Author.Tests.{eq-eqb, ne_eqb, lt-ltb, le-ltb}
+use lib.ListN.{length, get_or, set, take, drop}
+use lib.Dec.{eqb}
+use lib.Pointwise.{pointwise}
+use borrow.Rule.Slice.PartMut.{mid_of}
+use Rattle.std.proofs.lemmas.List.{get_or-take, get_or-drop, length-take, length-drop, ext_get_or}
+use Rattle.std.proofs.lemmas.Slice.Eq.{slice_eq-Decides}
+use Rattle.std.proofs.lemmas.Bool.Decides.{Decides-eqb}
+use borrow.Author.Tests.{eq-eqb, ne_eqb, lt-ltb, le-ltb, eqb-true}
 use Rattle.base.specs.Outcome.{accepted, refused}
 use Rattle.std.specs.Prelude.{Ok}
 use Rattle.collector.specs.Parts.{Parts}
@@ -15,8 +22,29 @@ use Rattle.collector.specs.declared.shape.Shape.{Shape}
 use Rattle.collector.specs.Collector.{marks_fit, bytes_fit, well_formed, stands_at, has_part, put, joining, taking, is_complete, standing_of, list_of, least_to, lowest, held}
 use Rattle.collector.specs.declared.Status.TheVariants.{Complete, Missing}
 use Rattle.collector.specs.Shape.{shape_of, fits, complete_shape, ShapeFits, shape_with, Judged}
-use Rattle.collector.proofs.Basic.{both_left}
+use Rattle.collector.proofs.Basic.{true_not_false, both_left, bool_cases, all_of, all_at}
 use Rattle.collector.proofs.shape.Laws.{marks_by_shape, marks_with, put_test, lowest_free, free_small, fit_of, complete_by_shape}
+
+-- a comparison of slices, as the code makes it
+pub stands_by : (bs p : List ℕ) (at : ℕ) → at + length p ≤ length bs → pointwise eqb (mid_of at (at + length p - at) bs) p ≡ stands_at bs at p
+unfolding stands_at
+stands_by bs p at h =
+    let k : at + length p - at ≡ length p = omega arith in
+    let part : List ℕ = take (length p) (drop at bs) in
+    let l : length part ≡ length p = simp (length-take, length-drop) (omega arith) in
+    let d = slice_eq-Decides Decides-eqb part p (pointwise eqb part p) refl in
+    let reads : (i : ℕ) → i < length p → get_or part i 0 ≡ get_or bs (at + i) 0 = λ i il. get_or-take (length p) (drop at bs) i 0 il ∙ get_or-drop at bs i 0 in
+    rw k
+    (⊎_elim
+    (λ (y : stands_at bs at p ≡ true).
+    d.1 (ext_get_or 0 part p l (λ i il. let jl : i < length p = omega arith in reads i jl ∙ eqb-true _ _ (all_at (λ j. eqb (get_or bs (at + j) 0) (get_or p j 0)) (length p) y i jl))) ∙ sym y)
+    (λ (n : stands_at bs at p ≡ false).
+    ⊎_elim
+    (λ (t : pointwise eqb part p ≡ true).
+    absurd (true_not_false (all_of (λ j. eqb (get_or bs (at + j) 0) (get_or p j 0)) (length p) (λ i il. eq-eqb _ _ (sym (reads i il) ∙ ap (λ (x : List ℕ). get_or x i 0) (d.0 t)))) n))
+    (λ (f : pointwise eqb part p ≡ false). f ∙ sym n)
+    (bool_cases (pointwise eqb part p)))
+    (bool_cases (stands_at bs at p)))
 
 -- an answer
 

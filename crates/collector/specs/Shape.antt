@@ -53,9 +53,13 @@ most bytes at n = max_to (λ j. get_or bytes (at + j) 0) n
 unfoldable pub holes : List ℕ → List ℕ → ℕ → ℕ → ℕ
 holes bytes marks k n = max_to (λ i. free (most bytes (part_length * (k + i)) part_length) (get_or marks (k + i) 0)) n
 
+-- the four below n
+abbrev pub shape_to : List ℕ → ℕ → Shape
+shape_to marks n = record { top = top_to marks n; gap = gap_to marks n; most = most_to marks n; free = free_to marks n }
+
 -- the four of all marks
 abbrev pub shape_of : List ℕ → Shape
-shape_of marks = record { top = top_to marks parts; gap = gap_to marks parts; most = most_to marks parts; free = free_to marks parts }
+shape_of marks = shape_to marks parts
 
 -- no part is too long, and none that is not full lies below the last that is not empty
 abbrev pub fits : Shape → Bool
@@ -70,9 +74,9 @@ pub record ShapeFits (marks : List ℕ) (s : Shape) : Type 0 where
   pub is : s ≡ shape_of marks
   pub fit : fits s ≡ true
 
--- the shape with a mark at an index that was not heard (its lowest free index aside)
+-- the shape with one mark more
 abbrev pub shape_with : Shape → ℕ → ℕ → Shape
-shape_with s i m = record { top = max s.top (filled (i + 1) m); gap = max s.gap (partly (parts - i) m); most = max s.most m; free = s.free }
+shape_with s i m = record { top = max s.top (filled (i + 1) m); gap = max s.gap (partly (parts - i) m); most = max s.most m; free = max s.free (free (parts - i) m) }
 
 -- every index below n was heard
 abbrev pub HeardBelow : List ℕ → ℕ → Type 0

@@ -7,25 +7,21 @@ use crate::Collector;
 use crate::shape::FULL;
 
 // The lowest unheard index, where all below one were heard: in order it is the next.
-pub(crate) fn unheard_from(marks: &[u8], from: u8) -> u8
-    requires marks_len { length marks.now ≡ parts }
-    requires from_le_parts { (from ≤ parts) × HeardBelow marks.now from }
+pub(crate) fn unheard_from(marks: &[u8; Collector::PARTS], from: u8) -> u8
+    requires { (from ≤ parts) × HeardBelow marks.now from }
     ensures { result ≡ lowest marks.now parts }
 {
-    let mut i = from;
-    while i <= Collector::LAST_INDEX {
+    for i in from..=Collector::LAST_INDEX {
         if marks[i as usize] == 0 {
             return i;
         }
-        i += 1;
     }
-    i
+    Collector::LAST_INDEX + 1
 }
 
 // Every index was heard, or the part before the lowest unheard one is not full.
-pub(crate) fn ended(marks: &[u8], low: u8) -> bool
-    requires marks_len { length marks.now ≡ parts }
-    requires low_value { low ≡ lowest marks.now parts }
+pub(crate) fn ended(marks: &[u8; Collector::PARTS], low: u8) -> bool
+    requires { low ≡ lowest marks.now parts }
     ensures { result ≡ complete_by marks.now }
 {
     if Collector::LAST_INDEX < low {

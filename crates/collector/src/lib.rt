@@ -50,15 +50,6 @@ enum Judgement {
     Keep,
 }
 
-// An array by value has its length, one behind a reference has it by a copy, which the compiler drops.
-fn lengths(
-    bytes: [u8; Collector::CAPACITY],
-    marks: [u8; Collector::PARTS],
-    known: [u8; Collector::KNOWN],
-)
-    ensures { (length bytes ≡ capacity) × ((length marks ≡ parts) × (length known ≡ known_length)) }
-{}
-
 // Where a part begins.
 fn start(index: u8) -> usize
     ensures { result ≡ part_length * index }
@@ -66,30 +57,15 @@ fn start(index: u8) -> usize
     Collector::PART * index as usize
 }
 
-fn stands_at(bytes: &[u8], at: usize, part: &[u8]) -> bool
-    requires { at + length part.now ≤ length bytes.now }
-    ensures { result ≡ stands_at bytes.now at part.now }
-{
-    let mut j: usize = 0;
-    while j < part.len() {
-        if bytes[at + j] != part[j] {
-            return false;
-        }
-        j += 1;
-    }
-    true
-}
-
 // Of parts that passed the test.
 fn judge_parts(
-    bytes: &[u8],
-    marks: &[u8],
+    bytes: &[u8; Collector::CAPACITY],
+    marks: &[u8; Collector::PARTS],
     shape: Shape,
     index: u8,
     response: &[u8],
 ) -> Result<Judgement, Refusal>
-    requires bytes_len { (length bytes.now ≡ capacity) × (length marks.now ≡ parts) }
-    requires shape_value { (shape ≡ shape_of marks.now) × (well_formed (held bytes.now marks.now) ≡ true) }
+    requires { (shape ≡ shape_of marks.now) × (well_formed (held bytes.now marks.now) ≡ true) }
     ensures { Judged (held bytes.now marks.now) index response.now result }
 {
     if Collector::LAST_INDEX < index {
@@ -109,7 +85,8 @@ fn judge_parts(
     if heard != mark {
         return Err(Refusal::Disagrees);
     }
-    if stands_at(bytes, start(index), response) {
+    let at = start(index);
+    if &bytes[at..at + response.len()] == response {
         return Ok(Judgement::Keep);
     }
     Err(Refusal::Disagrees)
@@ -117,13 +94,12 @@ fn judge_parts(
 
 // Reads only: the arrays of a refused answer are never written.
 fn judge(
-    bytes: &[u8],
-    marks: &[u8],
-    known: &[u8],
+    bytes: &[u8; Collector::CAPACITY],
+    marks: &[u8; Collector::PARTS],
+    known: &[u8; Collector::KNOWN],
     index: u8,
     response: &[u8],
 ) -> Result<Judgement, Refusal>
-    requires { (length bytes.now ≡ capacity) × ((length marks.now ≡ parts) × (length known.now ≡ known_length)) }
     ensures { JudgedStored (collector_of bytes.now marks.now known.now) index response.now result }
 {
     let shape = shape_of(marks);
@@ -133,25 +109,20 @@ fn judge(
     judge_parts(bytes, marks, shape, index, response)
 }
 
-fn put(bytes: &mut [u8], at: usize, part: &[u8])
-    requires { at + length part.now ≤ length bytes.old }
-    ensures { bytes.new ≡ paste bytes.old at part.now (length part.now) }
-{
-    let mut j: usize = 0;
-    while j < part.len() {
-        bytes[at + j] = part[j];
-        j += 1;
-    }
-}
-
 // A part that is new, and what a search would find now.
-fn store(bytes: &mut [u8], marks: &mut [u8], known: &mut [u8], index: u8, response: &[u8])
-    requires bytes_len { (length bytes.old ≡ capacity) × ((length marks.old ≡ parts) × (length known.old ≡ known_length)) }
-    requires known_value { (get_or known.old 0 0 ≡ lowest marks.old parts) × ((index ≤ last_index) × (length response.now ≤ part_length)) }
+fn store(
+    bytes: &mut [u8; Collector::CAPACITY],
+    marks: &mut [u8; Collector::PARTS],
+    known: &mut [u8; Collector::KNOWN],
+    index: u8,
+    response: &[u8],
+)
+    requires { (get_or known.old 0 0 ≡ lowest marks.old parts) × ((index ≤ last_index) × (length response.now ≤ part_length)) }
     ensures { collector_of bytes.new marks.new known.new ≡ knowing (put (held bytes.old marks.old) index response.now) }
 {
     marks[index as usize] = (response.len() + 1) as u8;
-    put(bytes, start(index), response);
+    let at = start(index);
+    bytes[at..at + response.len()].copy_from_slice(response);
     let low = unheard_from(marks, known[0]);
     known[0] = low;
     known[1] = ended(marks, low) as u8;
@@ -166,7 +137,6 @@ pub fn answer_in(
 ) -> Result<(), Refusal>
     ensures { Gives (taking_stored (collector_of bytes.old marks.old known.old) index response.now) (collector_of bytes.old marks.old known.old) result (collector_of bytes.new marks.new known.new) }
 {
-    lengths(*bytes, *marks, *known);
     match judge(bytes, marks, known, index, response)? {
         Judgement::Store => store(bytes, marks, known, index, response),
         Judgement::Keep => {}
@@ -182,7 +152,6 @@ pub fn status_in(
 ) -> Result<Status, Refusal>
     ensures { said result ≡ standing_stored (collector_of bytes.now marks.now known.now) }
 {
-    lengths(*bytes, *marks, *known);
     let shape = shape_of(marks);
     if !well_stored(bytes, marks, known, shape) {
         return Err(Refusal::NoForm);
@@ -238,7 +207,7 @@ impl Collector {
         }
     }
 
-    // A refused one is given back as it came: where it is lent whole, nothing is copied back.
+    // A refused one is given back as it came.
     pub fn answer(self, index: u8, response: &[u8]) -> Answered
         ensures { Gives (taking_stored self index response.now) self result.verdict result.collector }
     {
@@ -250,13 +219,7 @@ impl Collector {
             index,
             response,
         );
-        if verdict.is_ok() {
-            return Answered { verdict, collector };
-        }
-        Answered {
-            verdict,
-            collector: self,
-        }
+        Answered { verdict, collector }
     }
 
     pub fn status(self) -> Result<Status, Refusal>

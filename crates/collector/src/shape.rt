@@ -5,6 +5,7 @@ ghost use Rattle.collector.specs.Shape.{ShapeFits, complete_shape, filled, fits,
 ghost use Rattle.collector.specs.Stored.{known_length, collector_of, well_stored};
 
 use crate::Collector;
+use std::cmp::max;
 
 // The mark of a full part.
 pub(crate) const FULL: u8 = Collector::PART as u8 + 1;
@@ -13,22 +14,10 @@ pub(crate) const FULL: u8 = Collector::PART as u8 + 1;
 // the largest mark, the largest PARTS - i that is not heard.
 #[derive(Clone, Copy)]
 pub(crate) struct Shape {
-    pub(crate) top: u8,
-    pub(crate) gap: u8,
-    pub(crate) most: u8,
-    pub(crate) free: u8,
-}
-
-fn wide(x: u8) -> usize
-    ensures { result ≡ x }
-{
-    x as usize
-}
-
-fn larger(a: u8, b: u8) -> u8
-    ensures { result ≡ max a b }
-{
-    if a < b { b } else { a }
+    top: u8,
+    gap: u8,
+    most: u8,
+    free: u8,
 }
 
 fn filled(j: u8, m: u8) -> u8
@@ -52,83 +41,71 @@ fn free(j: u8, m: u8) -> u8
     if 0 < m { 0 } else { j }
 }
 
-pub(crate) fn shape_of(marks: &[u8]) -> Shape
-    requires { length marks.now ≡ parts }
+pub(crate) fn shape_of(marks: &[u8; Collector::PARTS]) -> Shape
     ensures { result ≡ shape_of marks.now }
 {
-    let mut top: u8 = 0;
-    let mut gap: u8 = 0;
-    let mut most: u8 = 0;
-    let mut low: u8 = 0;
-    let mut i: usize = 0;
-    while i < Collector::PARTS {
-        let m = marks[i];
-        let up = (i + 1) as u8;
-        let down = (Collector::PARTS - i) as u8;
-        top = larger(top, filled(up, m));
-        gap = larger(gap, partly(down, m));
-        most = larger(most, m);
-        low = larger(low, free(down, m));
-        i += 1;
+    let mut shape = Shape {
+        top: 0,
+        gap: 0,
+        most: 0,
+        free: 0,
+    };
+    for (i, mark) in marks.iter().enumerate() {
+        shape = shape_with(shape, i as u8, *mark);
     }
-    Shape {
-        top,
-        gap,
-        most,
-        free: low,
-    }
+    shape
 }
 
-// The largest of n bytes from a place on.
-fn most(bytes: &[u8], at: usize, n: usize) -> u8
-    requires { at + n ≤ length bytes.now }
-    ensures { result ≡ most bytes.now at n }
+// The largest of some bytes.
+fn most(bytes: &[u8]) -> u8
+    ensures { result ≡ most bytes.now 0 (length bytes.now) }
 {
-    let mut acc: u8 = 0;
-    let mut j: usize = 0;
-    while j < n {
-        acc = larger(acc, bytes[at + j]);
-        j += 1;
+    let mut most = 0;
+    for byte in bytes {
+        most = max(most, *byte);
     }
-    acc
+    most
 }
 
-fn hole(bytes: &[u8], i: usize, mark: u8) -> u8
-    requires { part_length * i + part_length ≤ length bytes.now }
+fn hole(bytes: &[u8; Collector::CAPACITY], i: usize, mark: u8) -> u8
+    requires { i < parts }
     ensures { result ≡ free (most bytes.now (part_length * i) part_length) mark }
 {
     if mark == 0 {
-        return most(bytes, Collector::PART * i, Collector::PART);
+        let at = Collector::PART * i;
+        return most(&bytes[at..at + Collector::PART]);
     }
     0
 }
 
 // The largest byte of the unheard parts.
-fn holes(bytes: &[u8], marks: &[u8], from: usize, to: usize) -> u8
-    requires { (part_length * to ≤ length bytes.now) × (to ≤ length marks.now) }
+fn holes(
+    bytes: &[u8; Collector::CAPACITY],
+    marks: &[u8; Collector::PARTS],
+    from: usize,
+    to: usize,
+) -> u8
+    requires { to ≤ parts }
     ensures { result ≡ holes bytes.now marks.now from (to - from) }
 {
-    let mut acc: u8 = 0;
-    let mut i: usize = from;
-    while i < to {
-        acc = larger(acc, hole(bytes, i, marks[i]));
-        i += 1;
+    let mut most = 0;
+    for i in from..to {
+        most = max(most, hole(bytes, i, marks[i]));
     }
-    acc
+    most
 }
 
 // The end of the last part that is not empty.
-pub(crate) fn length_by(marks: &[u8], shape: Shape) -> usize
-    requires shape_fits { ShapeFits marks.now shape }
-    requires marks_len { length marks.now ≡ parts }
+pub(crate) fn length_by(marks: &[u8; Collector::PARTS], shape: Shape) -> usize
+    requires { ShapeFits marks.now shape }
     ensures { result ≡ least_to marks.now parts }
 {
-    let top = wide(shape.top);
+    let top = shape.top as usize;
     if top == 0 {
         return 0;
     }
     let last = top - 1;
-    Collector::PART * last + (wide(marks[last]) - 1)
+    Collector::PART * last + (marks[last] as usize - 1)
 }
 
 pub(crate) fn marks_fit(shape: Shape) -> bool
@@ -137,45 +114,52 @@ pub(crate) fn marks_fit(shape: Shape) -> bool
     if FULL < shape.most {
         return false;
     }
-    if Collector::PARTS + 1 < wide(shape.top) + wide(shape.gap) {
+    if Collector::PARTS + 1 < shape.top as usize + shape.gap as usize {
         return false;
     }
     true
 }
 
-// The shape with a mark at an unheard index: no second pass.
+// The shape with one mark more; so that of the marks with one put in at an unheard index, with no second pass. Inlined: the
+// loop over the marks is vector code then.
+#[inline(always)]
 pub(crate) fn shape_with(shape: Shape, i: u8, m: u8) -> Shape
     requires { i < parts }
     ensures { result ≡ shape_with shape i m }
 {
-    let top = shape.top;
-    let gap = shape.gap;
-    let most = shape.most;
+    let up = i + 1;
+    let down = Collector::PARTS as u8 - i;
     Shape {
-        top: larger(top, filled(i + 1, m)),
-        gap: larger(gap, partly(Collector::PARTS as u8 - i, m)),
-        most: larger(most, m),
-        free: shape.free,
+        top: max(shape.top, filled(up, m)),
+        gap: max(shape.gap, partly(down, m)),
+        most: max(shape.most, m),
+        free: max(shape.free, free(down, m)),
     }
 }
 
 // Behind the list's end all is zero, and in the unheard parts before it. Full parts are not read.
-fn bytes_fit(bytes: &[u8], marks: &[u8], shape: Shape) -> bool
-    requires shape_fits { ShapeFits marks.now shape }
-    requires bytes_len { (length bytes.now ≡ capacity) × (length marks.now ≡ parts) }
+fn bytes_fit(
+    bytes: &[u8; Collector::CAPACITY],
+    marks: &[u8; Collector::PARTS],
+    shape: Shape,
+) -> bool
+    requires { ShapeFits marks.now shape }
     ensures { result ≡ bytes_fit bytes.now marks.now }
 {
     let end = length_by(marks, shape);
-    if most(bytes, end, Collector::CAPACITY - end) != 0 {
+    if most(&bytes[end..]) != 0 {
         return false;
     }
-    let low = Collector::PARTS - wide(shape.free);
-    holes(bytes, marks, low, wide(shape.top)) == 0
+    let low = Collector::PARTS - shape.free as usize;
+    holes(bytes, marks, low, shape.top as usize) == 0
 }
 
-pub(crate) fn well_formed(bytes: &[u8], marks: &[u8], shape: Shape) -> bool
-    requires shape_value { shape ≡ shape_of marks.now }
-    requires bytes_len { (length bytes.now ≡ capacity) × (length marks.now ≡ parts) }
+fn well_formed(
+    bytes: &[u8; Collector::CAPACITY],
+    marks: &[u8; Collector::PARTS],
+    shape: Shape,
+) -> bool
+    requires { shape ≡ shape_of marks.now }
     ensures { result ≡ well_formed (held bytes.now marks.now) }
 {
     if marks_fit(shape) {
@@ -185,7 +169,7 @@ pub(crate) fn well_formed(bytes: &[u8], marks: &[u8], shape: Shape) -> bool
 }
 
 // Every index was heard, or the first part that is not full stands below the lowest unheard index.
-pub(crate) fn complete(shape: Shape) -> bool
+fn complete(shape: Shape) -> bool
     ensures { result ≡ complete_shape shape }
 {
     if shape.free == 0 {
@@ -195,7 +179,7 @@ pub(crate) fn complete(shape: Shape) -> bool
 }
 
 // The lowest unheard index.
-pub(crate) fn lowest_by(shape: Shape) -> u8
+fn lowest_by(shape: Shape) -> u8
     requires { shape.free ≤ parts }
     ensures { result ≡ parts - shape.free }
 {
@@ -203,9 +187,13 @@ pub(crate) fn lowest_by(shape: Shape) -> u8
 }
 
 // What is stored is what the four maxima say: no second pass.
-pub(crate) fn well_stored(bytes: &[u8], marks: &[u8], known: &[u8], shape: Shape) -> bool
-    requires shape_value { shape ≡ shape_of marks.now }
-    requires bytes_len { (length bytes.now ≡ capacity) × ((length marks.now ≡ parts) × (length known.now ≡ known_length)) }
+pub(crate) fn well_stored(
+    bytes: &[u8; Collector::CAPACITY],
+    marks: &[u8; Collector::PARTS],
+    known: &[u8; Collector::KNOWN],
+    shape: Shape,
+) -> bool
+    requires { shape ≡ shape_of marks.now }
     ensures { result ≡ well_stored (collector_of bytes.now marks.now known.now) }
 {
     if !well_formed(bytes, marks, shape) {

@@ -9,4 +9,4 @@ returns-then-not-well_stored c = let a = c.args in rw (untested (collector_of a.
 pub returns : goal.returns
 returns c =
     let a = c.args in
-    judged (collector_of a.bytes.now a.marks.now a.known.now) a.index a.response.now (sym c.well_stored.ensures ∙ c.if-not-well_stored.false) c.requires.1.1 c.judge_parts.result c.judge_parts.ensures
+    judged (collector_of a.bytes.now a.marks.now a.known.now) a.index a.response.now (sym c.well_stored.ensures ∙ c.if-not-well_stored.false) c.told-known c.judge_parts.result c.judge_parts.ensures

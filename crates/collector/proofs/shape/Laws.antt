@@ -5,8 +5,13 @@ use mathlib.Core.Logic.{◌⊎◌, inl, inr, ⊎_elim}
 use mathlib.Core.List.{List}
 use mathlib.Core.Bool.{Bool, true, false}
 use native.Mathlib.Omega.{arith}
+use native.Mathlib.Nat.{zero-add}
 use native.Mathlib.Numerals.{add-one}
-use lib.ListN.{length, get_or, set}
+use Rattle.std.proofs.Common.{rules, nat_cmp}
+use Rattle.std.proofs.lemmas.List.{get_or-take, get_or-drop, length-take, length-drop}
+use borrow.Rule.Slice.PartMut.{mid_of}
+use Rattle.std.specs.Ordering.{ord_max}
+use lib.ListN.{length, get_or, set, take, drop}
 use lib.Seq.{paste, get_or-set_same, get_or-set_other}
 use lib.Dec.{ltb, eqb}
 use borrow.Author.Tests.{eq-eqb, ne_eqb, lt-ltb, le-ltb, ltb-false}
@@ -14,10 +19,14 @@ use Rattle.collector.specs.Parts.{Parts}
 use Rattle.collector.specs.declared.shape.Shape.{Shape}
 use Rattle.std.specs.Prelude.{if◌then◌else◌}
 use Rattle.collector.specs.Collector.{end_of, least_to, lowest, marks_fit, bytes_fit, well_formed, put, complete_by}
-use Rattle.collector.specs.Shape.{max_to, filled, partly, free, top_to, gap_to, most_to, free_to, most, holes, shape_of, fits, complete_shape, ShapeFits, shape_with}
+use Rattle.collector.specs.Shape.{max_to, filled, partly, free, top_to, gap_to, most_to, free_to, most, holes, shape_to, shape_of, fits, complete_shape, ShapeFits, shape_with}
 use Rattle.collector.proofs.Basic.{true_not_false, both_right, bool_cases, lt_or_le, eq_or_ne, end_small, end_large, low_le, le_low, MarksOk, Zeros, marks_fact, fact_marks, bytes_fact, fact_bytes}
 use Rattle.collector.proofs.Parts.{zeros_put}
 use Rattle.collector.proofs.Complete.{lowest_le, lowest_below, lowest_at}
+
+-- the larger of two, as the code takes it
+pub larger : (a b : ℕ) → ord_max nat_cmp a b ≡ max a b
+larger a b = search rules
 
 -- the largest of some numbers
 
@@ -34,6 +43,11 @@ module _ (f : ℕ → ℕ) where
   unfolding max_to
   max_le zero t h = omega arith
   max_le (suc n) t h = omega (arith, max_le n t (λ i l. h i (omega arith)), h n (omega arith))
+
+max_same : (f g : ℕ → ℕ) (n : ℕ) → ((i : ℕ) → i < n → f i ≡ g i) → max_to f n ≡ max_to g n
+unfolding max_to
+max_same f g zero h = refl
+max_same f g (suc n) h = rw (max_same f g n (λ i l. h i (omega arith)), h n (omega arith))
 
 -- one number more, in place of a zero
 pub max_with : (f g : ℕ → ℕ) (n i : ℕ) → i < n → f i ≡ 0 → ((j : ℕ) → (j ≡ i → ⊥) → g j ≡ f j) → max_to g n ≡ max (max_to f n) (g i)
@@ -369,9 +383,26 @@ module _ (ms : List ℕ) (i : ℕ) where
   unfolding free_to max_to
   free_next = ap (free_to ms) (add-one i)
 
+pub shape_next : (ms : List ℕ) (i : ℕ) → shape_with (shape_to ms i) i (get_or ms i 0) ≡ shape_to ms (i + 1)
+shape_next ms i = rw (top_next ms i, gap_next ms i, most_next ms i, free_next ms i)
+
 pub bytes_next : (bs : List ℕ) (at j : ℕ) → most bs at (j + 1) ≡ max (most bs at j) (get_or bs (at + j) 0)
 unfolding most max_to
 bytes_next bs at j = ap (most bs at) (add-one j)
+
+-- of a part that is cut out
+pub most_part : (bs : List ℕ) (at n : ℕ) → at + n ≤ length bs → most (mid_of at n bs) 0 (length (mid_of at n bs)) ≡ most bs at n
+unfolding most
+most_part bs at n h =
+    let l : length (take n (drop at bs)) ≡ n = simp (length-take, length-drop) (omega arith) in
+    rw l
+    (max_same (λ j. get_or (take n (drop at bs)) (0 + j) 0) (λ j. get_or bs (at + j) 0) n (λ j jl.
+    rw (zero-add j) (get_or-take n (drop at bs) j 0 jl ∙ get_or-drop at bs j 0)))
+
+pub hole_is : (bs : List ℕ) (i m : ℕ) → length bs ≡ 1024 → i < 64 → m ≡ 0 → most (mid_of (16 * i) (16 * i + 16 - 16 * i) bs) 0 (length (mid_of (16 * i) (16 * i + 16 - 16 * i) bs)) ≡ free (most bs (16 * i) 16) m
+hole_is bs i m e il z =
+    let q : 16 * i + 16 - 16 * i ≡ 16 = omega arith in
+    rw q (most_part bs (16 * i) 16 (omega arith)) ∙ sym (free_yes (most bs (16 * i) 16) m z)
 
 holes_suc : (bs ms : List ℕ) (k n : ℕ) → holes bs ms k (suc n) ≡ max (holes bs ms k n) (free (most bs (16 * (k + n)) 16) (get_or ms (k + n) 0))
 unfolding holes max_to

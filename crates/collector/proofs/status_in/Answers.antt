@@ -4,8 +4,8 @@ use Rattle.collector.proofs.Entries.{shape_fits}
 use Rattle.collector.proofs.Stored.{parts_formed, says_complete, says_missing}
 use Rattle.collector.proofs.status_in.Goals as goal
 
-pub length_by-requires-clause-shape_fits : goal.length_by-requires-clause-shape_fits
-length_by-requires-clause-shape_fits c =
+pub length_by-requires : goal.length_by-requires
+length_by-requires c =
     let a = c.args in
     shape_fits a.bytes.now a.marks.now c.shape_of-shape.result c.shape_of-shape.ensures (parts_formed (collector_of a.bytes.now a.marks.now a.known.now) (sym c.well_stored.ensures ∙ c.if-not-well_stored.false))
 

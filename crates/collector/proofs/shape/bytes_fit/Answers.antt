@@ -1,37 +1,38 @@
-use mathlib.Core.Path.{sym}
+use mathlib.Core.Path.{◌≡◌, refl, sym, ◌∙◌}
 use native.Mathlib.Omega.{arith}
-use Rattle.collector.proofs.shape.Laws.{at_within, tail_tells, free_within, top_within, holes_tell}
+use Prim.Native.Nat.{◌-◌, ◌≤◌}
+use Rattle.collector.specs.Shape.{most}
+use Rattle.collector.proofs.shape.Laws.{at_within, most_part, tail_tells, free_within, top_within, holes_tell}
 use Rattle.collector.proofs.shape.bytes_fit.Goals as goal
 
-pub overflow_sub-end : goal.overflow_sub-end
-overflow_sub-end c =
-    let a = c.args in
-    omega (arith, at_within a.bytes.now a.marks.now a.shape c.requires.shape_fits c.length_by-end.result c.length_by-end.ensures)
+pub slice_bounds-most-count : goal.slice_bounds-most-count
+slice_bounds-most-count c = let a = c.args in omega (arith, at_within a.bytes.now a.marks.now a.shape c.requires c.length_by-end.result c.length_by-end.ensures)
 
-pub most-requires : goal.most-requires
-most-requires c =
-    let a = c.args in
-    omega (arith, c.requires.bytes_len.0, at_within a.bytes.now a.marks.now a.shape c.requires.shape_fits c.length_by-end.result c.length_by-end.ensures)
+pub slice_bounds-most-start : goal.slice_bounds-most-start
+slice_bounds-most-start c = let a = c.args in omega (arith, at_within a.bytes.now a.marks.now a.shape c.requires c.length_by-end.result c.length_by-end.ensures)
 
 pub returns-then-most-ne0 : goal.returns-then-most-ne0
 returns-then-most-ne0 c =
     let a = c.args in
-    sym (tail_tells a.bytes.now a.marks.now a.shape c.requires.shape_fits c.length_by-end.result c.length_by-end.ensures (λ q. c.if-most-ne0.true (rw c.most.ensures q)))
+    let at = c.length_by-end.result in
+    let l : at ≤ 1024 = at_within a.bytes.now a.marks.now a.shape c.requires at c.length_by-end.ensures in
+    let m : c.most.result ≡ most a.bytes.now at (1024 - at) = c.most.ensures ∙ most_part a.bytes.now at (1024 - at) (omega arith) in
+    sym (tail_tells a.bytes.now a.marks.now a.shape c.requires at c.length_by-end.ensures (λ q. c.if-most-ne0.true (m ∙ q)))
 
 pub overflow_sub-low : goal.overflow_sub-low
 overflow_sub-low c =
     let a = c.args in
-    omega (arith, c.wide-low.ensures, free_within a.bytes.now a.marks.now a.shape c.requires.shape_fits c.length_by-end.result c.length_by-end.ensures)
+    omega (arith, free_within a.bytes.now a.marks.now a.shape c.requires c.length_by-end.result c.length_by-end.ensures)
 
 pub holes-requires : goal.holes-requires
 holes-requires c =
     let a = c.args in
-    let t = top_within a.bytes.now a.marks.now a.shape c.requires.shape_fits c.length_by-end.result c.length_by-end.ensures in
-    (omega (arith, c.wide.ensures, t, c.requires.bytes_len.0), omega (arith, c.wide.ensures, t, c.requires.bytes_len.1))
+    omega (arith, top_within a.bytes.now a.marks.now a.shape c.requires c.length_by-end.result c.length_by-end.ensures)
 
 pub returns : goal.returns
 returns c =
     let a = c.args in
-    rw c.holes.ensures
-    (holes_tell a.bytes.now a.marks.now a.shape c.requires.shape_fits c.length_by-end.result c.length_by-end.ensures
-    (rw (← c.most.ensures) c.if-most-ne0.false) _ _ c.wide-low.ensures c.wide.ensures)
+    let at = c.length_by-end.result in
+    let l : at ≤ 1024 = at_within a.bytes.now a.marks.now a.shape c.requires at c.length_by-end.ensures in
+    let m : c.most.result ≡ most a.bytes.now at (1024 - at) = c.most.ensures ∙ most_part a.bytes.now at (1024 - at) (omega arith) in
+    rw c.holes.ensures (holes_tell a.bytes.now a.marks.now a.shape c.requires at c.length_by-end.ensures (sym m ∙ c.if-most-ne0.false) _ _ refl refl)

@@ -1,10 +1,14 @@
-use Rattle.collector.proofs.shape.Laws.{holes_next, holes_none}
 use native.Mathlib.Omega.{arith}
-use mathlib.Core.Path.{sym}
+use mathlib.Core.Path.{◌≡◌, sym}
+use Prim.Native.Nat.{◌-◌}
+use Rattle.collector.proofs.shape.Laws.{larger, holes_next, holes_none}
 use Rattle.collector.proofs.shape.holes.Goals as goal
 
 pub loop-i-init : goal.loop-i-init
-loop-i-init c = (omega arith, (omega arith, holes_none c.args.bytes.now c.args.marks.now c.args.from))
+loop-i-init c = (omega arith, holes_none c.args.bytes.now c.args.marks.now c.args.from)
 
 pub loop-i-preserved : goal.loop-i-preserved
-loop-i-preserved c = (omega arith, (omega arith, rw (c.larger-acc.ensures, c.hole.ensures, c.loop-i.invariant.1.1) (sym (holes_next c.args.bytes.now c.args.marks.now c.args.from c.loop-i.i (omega arith)))))
+loop-i-preserved c = (omega arith, rw (c.max-most.ensures, larger, c.hole.ensures, c.loop-i.invariant.1) (sym (holes_next c.args.bytes.now c.args.marks.now c.args.from c.loop-i.i (omega arith))))
+
+pub returns : goal.returns
+returns c = let e : c.loop-i.i - c.args.from ≡ c.args.to - c.args.from = omega arith in rw (c.loop-i.invariant.1, e)

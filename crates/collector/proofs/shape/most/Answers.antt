@@ -1,12 +1,12 @@
-use Rattle.collector.proofs.shape.Laws.{bytes_next}
-use native.Mathlib.Omega.{arith}
 use mathlib.Core.Path.{refl}
+use native.Mathlib.Nat.{zero-add}
 use Rattle.collector.specs.Shape.{most, max_to}
+use Rattle.collector.proofs.shape.Laws.{larger, bytes_next}
 use Rattle.collector.proofs.shape.most.Goals as goal
 
-pub loop-j-init : goal.loop-j-init
+pub loop-byte-init : goal.loop-byte-init
 unfolding most max_to
-loop-j-init c = (omega arith, refl)
+loop-byte-init c = refl
 
-pub loop-j-preserved : goal.loop-j-preserved
-loop-j-preserved c = (omega arith, rw (bytes_next, c.larger-acc.ensures, c.loop-j.invariant.1))
+pub loop-byte-preserved : goal.loop-byte-preserved
+loop-byte-preserved c = rw (c.max-most.ensures, larger, bytes_next, zero-add c.loop-byte.byte-index, c.loop-byte.invariant)
