@@ -1,10 +1,10 @@
 -- Laws of Get Channel Authentication Capabilities.
-use Rattle.std.specs.Prelude.{◌≡◌, ℕ, ◌+◌, ◌-◌, ◌≤◌, Bool, true, false, not, ltb, ◌↔◌, List, [], ◌∷◌, None}
+use Rattle.std.specs.Prelude.{◌≡◌, ℕ, ◌+◌, ◌-◌, ◌≤◌, Bool, true, false, not, ltb, ◌↔◌, List, [], ◌∷◌, length, None}
 use mathlib.Core.Path.{refl, ap, ◌∙◌}
 use native.Mathlib.Omega.{arith}
 use borrow.Author.Tests.{ltb-false, le-ltb}
 use Rattle.auth.specs.Auth.{privileges, privilege_value}
-use Rattle.auth.specs.GetChannelAuthenticationCapabilities.{Typed, asked_channel, asked_level, best_auth, capabilities_bytes, capabilities_of, command, command_bytes, command_of}
+use Rattle.auth.specs.GetChannelAuthenticationCapabilities.{Typed, asked_channel, asked_level, best_auth, capabilities_bytes, capabilities_of, command, command_bytes, command_of, extended, extended_of, plain}
 use Rattle.auth.specs.declared.AuthType.TheVariants as Kind
 use Rattle.auth.specs.declared.PrivilegeLevel.{PrivilegeLevel}
 use Rattle.auth.specs.declared.get_channel_authentication_capabilities.ChannelAuthenticationCapabilities.{ChannelAuthenticationCapabilities}
@@ -55,6 +55,13 @@ pub command_no_form : (k : GetChannelAuthenticationCapabilities) → command_byt
 command_no_form k = no_channel_form k.channel_number (λ n. (0x80 + n) ∷ privilege_value k.privilege_level ∷ [])
 
 -- The response.
+
+-- the two forms that are read
+pub is_plain : (s : List ℕ) → 7 ≤ length s → flag 7 (byte 1 s) ≡ false → capabilities_of s ≡ accepted (plain s)
+is_plain s h x = rw (le-ltb (length s) 7 h, x)
+
+pub is_extended : (s : List ℕ) → 8 ≤ length s → extended_of s ≡ accepted (extended s)
+is_extended s h = rw (le-ltb (length s) 8 h)
 
 twice : (b : Bool) → not (not b) ≡ b
 twice true = refl
