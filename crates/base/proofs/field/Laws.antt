@@ -1,17 +1,16 @@
 -- Laws of a field: what `bits` of src/field.rt meets at each position and width.
 use mathlib.Core.Path.{◌≡◌, refl, sym, ◌∙◌, ap}
-use Prim.Native.Nat.{ℕ, zero, suc, ◌+◌, ◌*◌, ◌/◌, ◌%◌, ◌^◌, ◌<◌, ◌≤◌}
+use Prim.Native.Nat.{ℕ, zero, suc, ◌*◌, ◌/◌, ◌%◌, ◌^◌, ◌<◌, ◌≤◌}
 use mathlib.Core.Bool.{Bool, true, false}
 use mathlib.Core.List.{List, [], ◌∷◌}
 use borrow.Author.Tests.{ltb-true, ltb-false}
 use mir.Val.{bool_byte}
 use lib.ListN.{length}
-use lib.Dec.{lit<, lit≤, eqb, ltb}
-use lib.Bits.{bit_or, or_shifted_r}
-use native.Mathlib.Nat.{add_comm, div-eq_of_lt, mod-eq_of_lt, zero-mod, one-mul, lt_of_lt_of_le, lt_of_le_of_lt}
+use lib.Dec.{lit<, eqb, ltb}
+use native.Mathlib.Nat.{div-eq_of_lt, mod-eq_of_lt, zero-mod, one-mul, lt_of_lt_of_le, lt_of_le_of_lt}
 use native.Mathlib.Omega.{arith}
-use lib.Pow.{pow_mono, pow-lt, pow_pos, shr_le, shl_exact}
-use Rattle.base.specs.Field.{bits, byte, flag, flags, raised, within}
+use lib.Pow.{pow_mono, pow-lt, pow_pos, shr_le}
+use Rattle.base.specs.Field.{bits, byte, flag, flags, within}
 use Rattle.base.specs.Outcome.{Outcome, accepted, refused}
 use Rattle.base.proofs.Outcome.{apart, Only, ranged, only_ranged}
 
@@ -33,10 +32,6 @@ pub bit_small : (b : Bool) → bool_byte b < 2
 bit_small false = lit< tt
 bit_small true = lit< tt
 
--- the machine's x | (b as u8) << at, where bit `at` and those above it are clear in x
-pub set_bit : (at x : ℕ) (b : Bool) → at ≤ 7 → x < 2 ^ at → bit_or x (bool_byte b * 2 ^ at % 256) ≡ x + raised at b
-set_bit at x b h p = rw (shl_exact {a = bool_byte b} 1 at 8 (bit_small b) (omega arith)) (or_shifted_r (bool_byte b) at x p ∙ add_comm (raised at b) x)
-
 pub is_set : (b : Bool) → eqb (bool_byte b) 1 ≡ b
 is_set true = refl
 is_set false = refl
@@ -44,27 +39,8 @@ is_set false = refl
 pub is_flag : (at n : ℕ) (b : Bool) → bits at 1 n ≡ bool_byte b → flag at n ≡ b
 is_flag at n b e = rw e (is_set b)
 
--- A byte of flags: what the machine puts together, and each flag read again. It is a byte.
+-- A byte of flags: each flag read again. It is a byte.
 module _ (b7 b6 b5 b4 b3 b2 b1 b0 : Bool) where
-  pub flags_packed : bit_or (bit_or (bit_or (bit_or (bit_or (bit_or (bit_or (bool_byte b0) (bool_byte b1 * 2 % 256)) (bool_byte b2 * 4 % 256)) (bool_byte b3 * 8 % 256)) (bool_byte b4 * 16 % 256)) (bool_byte b5 * 32 % 256)) (bool_byte b6 * 64 % 256)) (bool_byte b7 * 128 % 256)
-      ≡ flags b7 b6 b5 b4 b3 b2 b1 b0
-  flags_packed =
-      let s0 = bit_small b0 in
-      let s1 = bit_small b1 in
-      let s2 = bit_small b2 in
-      let s3 = bit_small b3 in
-      let s4 = bit_small b4 in
-      let s5 = bit_small b5 in
-      let s6 = bit_small b6 in
-      let x1 = bool_byte b0 + raised 1 b1 in
-      let x2 = x1 + raised 2 b2 in
-      let x3 = x2 + raised 3 b3 in
-      let x4 = x3 + raised 4 b4 in
-      let x5 = x4 + raised 5 b5 in
-      let x6 = x5 + raised 6 b6 in
-      rw
-      (set_bit 1 (bool_byte b0) b1 (lit≤ tt) s0, set_bit 2 x1 b2 (lit≤ tt) (omega arith), set_bit 3 x2 b3 (lit≤ tt) (omega arith), set_bit 4 x3 b4 (lit≤ tt) (omega arith), set_bit 5 x4 b5 (lit≤ tt) (omega arith), set_bit 6 x5 b6 (lit≤ tt) (omega arith), set_bit 7 x6 b7 (lit≤ tt) (omega arith))
-
   pub flags_read : (flag 7 (flags b7 b6 b5 b4 b3 b2 b1 b0) ≡ b7)
       × (flag 6 (flags b7 b6 b5 b4 b3 b2 b1 b0) ≡ b6)
       × (flag 5 (flags b7 b6 b5 b4 b3 b2 b1 b0) ≡ b5)
