@@ -7,7 +7,7 @@ use Rattle.access.specs.GetChannelAccess as access
 use Rattle.access.specs.declared.get_channel_access.ChannelAccessType.{ChannelAccessType}
 use Rattle.access.specs.declared.get_channel_access.ChannelAccessType.TheVariants.{NonVolatile, Volatile}
 use Rattle.info.specs.GetChannelInfo as info
-use Rattle.by_suite.specs.GetChannelCipherSuites as bySuite
+use Rattle.by_suite.specs.GetChannelCipherSuites.{list_by_suite}
 use Rattle.suites.specs.GetChannelCipherSuites as suites
 
 -- from 0 up: which settings
@@ -34,11 +34,11 @@ info_request number = do
 -- "request 54h, 3 bytes"
 abbrev pub suites_request : ℕ → ℕ → Outcome (List ℕ)
 suites_request number index = do
-  command ← suites.command_for number index
-  suites.command_bytes command
+  command ← suites.command_for 0 number index
+  suites.command_bytes 0 command
 
--- the same by suite: document 02, C-12
+-- the same by suite, with bit 7 set: document 02, C-12
 abbrev pub by_suite_request : ℕ → ℕ → Outcome (List ℕ)
 by_suite_request number index = do
-  command ← bySuite.command_for number index
-  bySuite.command_bytes command
+  command ← suites.command_for list_by_suite number index
+  suites.command_bytes list_by_suite command

@@ -20,8 +20,7 @@ pub fn ghj_suite_step(list: &[u8], position: &mut usize, failed: &mut u8) -> u64
     ensures { Steps (step_at list.now position.old (is_set failed.old)) result position.new failed.new }
 {
     let step = step_at(list, *position, *failed != 0);
-    let answer = step.answer;
     *position = step.position;
     *failed = step.failed as u8;
-    suite_number(answer)
+    suite_number(step.answer)
 }

@@ -1,8 +1,9 @@
 // Cipher suite records with their tags: a step of the reading, the count, the two lists, the algorithms' numbers, and a record written.
 ghost use Rattle.std.specs.Prelude.{◌≡◌};
 ghost use Rattle.base.specs.Outcome.{accepted};
+ghost use Rattle.base.specs.Refusal.{said};
 ghost use Rattle.capi.specs.Number.{Codes, code};
-ghost use Rattle.capi.specs.TaggedRecords.{record_bytes, record_written, step_record};
+ghost use Rattle.capi.specs.TaggedRecords.{owner_for, record_bytes, record_written, step_record};
 ghost use Rattle.tagged.specs.TaggedRecords.{count_of, listing_of, numbers_in, strict_numbers_of};
 
 use crate::number::{code, refused};
@@ -67,6 +68,17 @@ pub fn ghj_tagged_algorithms(bytes: &[u8], out: &mut [u8]) -> u64
     code(algorithm_numbers(bytes, out))
 }
 
+// 0 is the standard's, which has no vendor number; 1 a vendor's own.
+fn owner_for(kind: u8, vendor: u32) -> Result<Owner, Refusal>
+    ensures { said result ≡ owner_for kind vendor }
+{
+    match (kind, vendor) {
+        (0, 0) => Ok(Owner::Standard),
+        (1, _) => Ok(Owner::Vendor(vendor)),
+        _ => Err(Refusal::NoForm),
+    }
+}
+
 // Owner 0 is the standard's, with vendor 0; 1 is a vendor's own.
 pub fn ghj_tagged_write(
     owner: u8,
@@ -79,28 +91,15 @@ pub fn ghj_tagged_write(
 ) -> u64
     ensures { Codes (record_written owner vendor number authentication integrity.now confidentiality.now) result out.old out.new }
 {
-    match owner {
-        0 => {
-            if vendor != 0 {
-                return refused(Refusal::NoForm);
-            }
-            code(write(
-                Owner::Standard,
-                number,
-                authentication,
-                integrity,
-                confidentiality,
-                out,
-            ))
-        }
-        1 => code(write(
-            Owner::Vendor(vendor),
+    match owner_for(owner, vendor) {
+        Ok(owner) => code(write(
+            owner,
             number,
             authentication,
             integrity,
             confidentiality,
             out,
         )),
-        _ => refused(Refusal::NoForm),
+        Err(refusal) => refused(refusal),
     }
 }

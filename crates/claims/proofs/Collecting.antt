@@ -12,7 +12,7 @@ use Rattle.base.specs.Outcome.{Outcome, accepted, refused, ◌>>=◌, is_accepte
 use Rattle.base.specs.Verdict.{verdict_of}
 use Rattle.by_suite.specs.ChannelCollector.{suites_from}
 use Rattle.by_suite.specs.Demand.{listening}
-use Rattle.by_suite.specs.GetChannelCipherSuites.{command_bytes, command_for, is_channel}
+use Rattle.by_suite.specs.GetChannelCipherSuites.{is_channel, list_by_suite}
 use Rattle.by_suite.proofs.Demand.{suites_are_the_channels}
 use Rattle.collector.specs.Collector.{answer_of, capacity, taking}
 use Rattle.collector.specs.Demand.{AllHeard, Call, Explained, Explains, HeardIn, IsList, controllers, made, taken}
@@ -24,7 +24,7 @@ use Rattle.collector.proofs.Demand.{demand_3, twelve_exactly}
 use Rattle.collector.proofs.Parts.{answer_length}
 use Rattle.collector.proofs.Step.{fresh_wf}
 use Rattle.collector.proofs.Storing.{answer_same, demand_3_stored}
-use Rattle.suites.specs.GetChannelCipherSuites.{numbers_of, suites, up_to}
+use Rattle.suites.specs.GetChannelCipherSuites.{command_bytes, command_for, numbers_of, suites, up_to}
 
 abbrev pub sevens : ℕ → List ℕ
 sevens n = replicate n 7
@@ -107,7 +107,7 @@ seventeen_at_63 = answer_same [] 63 (sevens 17) ∙ rw fresh_wf
 
 -- Document 02, C-12: index 2 of channel 1, asked by suite; an answer as it came, from channel 1.
 
-pub asked_by_suite : (command_for 1 2 >>= command_bytes) ≡ accepted (0x01 ∷ 0x00 ∷ 0x82 ∷ [])
+pub asked_by_suite : (command_for list_by_suite 1 2 >>= command_bytes list_by_suite) ≡ accepted (0x01 ∷ 0x00 ∷ 0x82 ∷ [])
 asked_by_suite = refl
 
 abbrev record_3 : List ℕ

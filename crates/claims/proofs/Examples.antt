@@ -47,8 +47,8 @@ examples =
     ∷ (channel_of 0x0E gives accepted Current)
     ∷ (channel_of 0x10 gives refused 6 [])
     -- P3
-    ∷ (Suites.command_bytes (Suites.command (Numbered (record { 0 = 1 })) 2) gives accepted (0x01 ∷ 0x00 ∷ 0x02 ∷ []))
-    ∷ (Suites.command_for 1 0x40 gives refused 7 [])
+    ∷ (Suites.command_bytes 0 (Suites.command 0 (Numbered (record { 0 = 1 })) 2) gives accepted (0x01 ∷ 0x00 ∷ 0x02 ∷ []))
+    ∷ (Suites.command_for 0 1 0x40 gives refused 7 [])
     -- P4
     ∷ (Capabilities.command_bytes (Capabilities.command (Numbered (record { 0 = 1 })) Administrator) gives accepted (0x81 ∷ 0x04 ∷ []))
     -- P5
