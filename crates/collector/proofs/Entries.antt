@@ -17,7 +17,7 @@ use borrow.Author.Tests.{eq-eqb, ne_eqb, lt-ltb, le-ltb, eqb-true}
 use Rattle.base.specs.Outcome.{accepted, refused}
 use Rattle.std.specs.Prelude.{Ok}
 use Rattle.collector.specs.Parts.{Parts}
-use Rattle.collector.specs.declared.Judgement.TheVariants.{Store}
+use Rattle.collector.specs.declared.tested.Judgement.TheVariants.{Store}
 use Rattle.collector.specs.declared.shape.Shape.{Shape}
 use Rattle.collector.specs.Collector.{marks_fit, bytes_fit, well_formed, stands_at, has_part, put, joining, taking, is_complete, standing_of, list_of, least_to, lowest, held}
 use Rattle.collector.specs.declared.Status.TheVariants.{Complete, Missing}

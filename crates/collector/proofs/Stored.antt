@@ -22,8 +22,8 @@ use Rattle.collector.specs.declared.Status.TheVariants.{Complete, Missing}
 use Rattle.collector.specs.Shape.{complete_shape, shape_of, HeardBelow, Judged, JudgedStored}
 use Rattle.collector.specs.Stored.{found, collector_of, parts_of, knowing, knows, well_stored, taking_stored, standing_stored, list_stored}
 use Rattle.collector.specs.declared.Collector.{Collector}
-use Rattle.collector.specs.declared.Judgement.{Judgement}
-use Rattle.collector.specs.declared.Judgement.TheVariants.{Store, Keep}
+use Rattle.collector.specs.declared.tested.Judgement.{Judgement}
+use Rattle.collector.specs.declared.tested.Judgement.TheVariants.{Store, Keep}
 use Rattle.collector.specs.declared.shape.Shape.{Shape}
 use Rattle.collector.proofs.Basic.{both_left, both_right, bool_cases, eq_or_ne, low_small}
 use Rattle.collector.proofs.Complete.{lowest_below, lowest_le}

@@ -8,8 +8,8 @@ use Rattle.collector.specs.Collector.{◌or◌, last_index, part_length, parts, 
 use Rattle.collector.specs.Parts.{Parts}
 use Rattle.collector.specs.Stored.{parts_of, knowing, taking_stored}
 use Rattle.collector.specs.declared.Collector.{Collector}
-use Rattle.collector.specs.declared.Judgement.{Judgement}
-use Rattle.collector.specs.declared.Judgement.TheVariants.{Store, Keep}
+use Rattle.collector.specs.declared.tested.Judgement.{Judgement}
+use Rattle.collector.specs.declared.tested.Judgement.TheVariants.{Store, Keep}
 use Rattle.collector.specs.declared.shape.Shape.{Shape}
 
 -- the largest of f 0, .., f (n - 1), or 0

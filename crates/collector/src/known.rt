@@ -1,5 +1,5 @@
 // What is known of the parts, kept up as they are heard.
-ghost use Rattle.std.specs.Prelude.{◌≤◌, ◌≡◌, length};
+ghost use Rattle.std.specs.Prelude.{◌≤◌, ◌≡◌};
 ghost use Rattle.collector.specs.Collector.{complete_by, lowest, parts};
 ghost use Rattle.collector.specs.Shape.{HeardBelow};
 

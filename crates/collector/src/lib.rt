@@ -1,23 +1,22 @@
-// Joins a list that arrives a part at a time: document 01, "The collector"; document 02, C-15. Its core works on slices, its
-// entries on lent arrays; what takes a collector by value or lent is thin over them.
+// Joins a list that arrives a part at a time: document 01, "The collector"; document 02, C-15. Its entries work on lent arrays;
+// what takes a collector by value or lent is thin over them.
 #![tactic(auto)]
 
-ghost use Rattle.std.specs.Prelude.{◌+◌, ◌*◌, ◌≤◌, true, ◌≡◌, length, get_or};
-ghost use Rattle.std.proofs.Math.Seq.{paste};
+ghost use Rattle.std.specs.Prelude.{◌*◌, ◌≤◌, ◌≡◌, length, get_or};
 ghost use Rattle.base.specs.Refusal.{said};
 ghost use Rattle.base.specs.Verdict.{Gives};
 ghost use Rattle.base.specs.Written.{Writes};
-ghost use Rattle.collector.specs.Collector.{capacity, held, last_index, lowest, part_length, parts, put, stands_at, well_formed};
-ghost use Rattle.collector.specs.Shape.{Judged, JudgedStored, shape_of};
-ghost use Rattle.collector.specs.Stored.{fresh_stored, knowing, known_length, collector_of, list_stored, standing_stored, taking_stored};
+ghost use Rattle.collector.specs.Collector.{held, last_index, lowest, part_length, parts, put};
+ghost use Rattle.collector.specs.Stored.{fresh_stored, knowing, collector_of, list_stored, standing_stored, taking_stored};
 
 use crate::known::{ended, unheard_from};
-use crate::shape::{Shape, length_by, marks_fit, shape_of, shape_with, well_stored};
+use crate::tested::{Judgement, Tested};
 use base::refusal::Refusal;
 use base::written::place;
 
 mod known;
 mod shape;
+mod tested;
 
 // The parts that were heard stand at their places among the bytes, zeros elsewhere. A part's mark is 0 where it was
 // not heard, and one more than its length where it was. Known is what a search would find: the lowest unheard index, PARTS
@@ -43,70 +42,11 @@ pub enum Status {
     Missing(u8),
 }
 
-// What is to be done with an answer that is not refused.
-#[derive(Drop)]
-enum Judgement {
-    Store,
-    Keep,
-}
-
 // Where a part begins.
-fn start(index: u8) -> usize
+pub(crate) fn start(index: u8) -> usize
     ensures { result ≡ part_length * index }
 {
     Collector::PART * index as usize
-}
-
-// Of parts that passed the test.
-fn judge_parts(
-    bytes: &[u8; Collector::CAPACITY],
-    marks: &[u8; Collector::PARTS],
-    shape: Shape,
-    index: u8,
-    response: &[u8],
-) -> Result<Judgement, Refusal>
-    requires { (shape ≡ shape_of marks.now) × (well_formed (held bytes.now marks.now) ≡ true) }
-    ensures { Judged (held bytes.now marks.now) index response.now result }
-{
-    if Collector::LAST_INDEX < index {
-        return Err(Refusal::BadIndex);
-    }
-    if Collector::PART < response.len() {
-        return Err(Refusal::TooMuchData);
-    }
-    let heard = marks[index as usize];
-    let mark = (response.len() + 1) as u8;
-    if heard == 0 {
-        if marks_fit(shape_with(shape, index, mark)) {
-            return Ok(Judgement::Store);
-        }
-        return Err(Refusal::Disagrees);
-    }
-    if heard != mark {
-        return Err(Refusal::Disagrees);
-    }
-    let at = start(index);
-    if &bytes[at..at + response.len()] == response {
-        return Ok(Judgement::Keep);
-    }
-    Err(Refusal::Disagrees)
-}
-
-// Reads only: the arrays of a refused answer are never written.
-fn judge(
-    bytes: &[u8; Collector::CAPACITY],
-    marks: &[u8; Collector::PARTS],
-    known: &[u8; Collector::KNOWN],
-    index: u8,
-    response: &[u8],
-) -> Result<Judgement, Refusal>
-    ensures { JudgedStored (collector_of bytes.now marks.now known.now) index response.now result }
-{
-    let shape = shape_of(marks);
-    if !well_stored(bytes, marks, known, shape) {
-        return Err(Refusal::NoForm);
-    }
-    judge_parts(bytes, marks, shape, index, response)
 }
 
 // A part that is new, and what a search would find now.
@@ -137,7 +77,7 @@ pub fn answer_in(
 ) -> Result<(), Refusal>
     ensures { Gives (taking_stored (collector_of bytes.old marks.old known.old) index response.now) (collector_of bytes.old marks.old known.old) result (collector_of bytes.new marks.new known.new) }
 {
-    match judge(bytes, marks, known, index, response)? {
+    match Tested::new(bytes, marks, known)?.judge(index, response)? {
         Judgement::Store => store(bytes, marks, known, index, response),
         Judgement::Keep => {}
     }
@@ -152,14 +92,7 @@ pub fn status_in(
 ) -> Result<Status, Refusal>
     ensures { said result ≡ standing_stored (collector_of bytes.now marks.now known.now) }
 {
-    let shape = shape_of(marks);
-    if !well_stored(bytes, marks, known, shape) {
-        return Err(Refusal::NoForm);
-    }
-    if known[1] == 1 {
-        return Ok(Status::Complete(length_by(marks, shape)));
-    }
-    Ok(Status::Missing(known[0]))
+    Ok(Tested::new(bytes, marks, known)?.status())
 }
 
 // The list, once it is complete, at the start of out.
@@ -208,18 +141,20 @@ impl Collector {
     }
 
     // A refused one is given back as it came.
-    pub fn answer(self, index: u8, response: &[u8]) -> Answered
+    pub fn answer(mut self, index: u8, response: &[u8]) -> Answered
         ensures { Gives (taking_stored self index response.now) self result.verdict result.collector }
     {
-        let mut collector = self;
         let verdict = answer_in(
-            &mut collector.bytes,
-            &mut collector.marks,
-            &mut collector.known,
+            &mut self.bytes,
+            &mut self.marks,
+            &mut self.known,
             index,
             response,
         );
-        Answered { verdict, collector }
+        Answered {
+            verdict,
+            collector: self,
+        }
     }
 
     pub fn status(self) -> Result<Status, Refusal>

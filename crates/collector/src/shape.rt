@@ -1,8 +1,8 @@
 // The test of well-formedness in one pass over the marks: four largest bytes, which the compiler vectorises.
-ghost use Rattle.std.specs.Prelude.{◌+◌, ◌-◌, ◌*◌, ◌<◌, ◌≤◌, max, ◌≡◌, length};
-ghost use Rattle.collector.specs.Collector.{bytes_fit, capacity, held, least_to, part_length, parts, well_formed};
+ghost use Rattle.std.specs.Prelude.{◌-◌, ◌*◌, ◌<◌, ◌≤◌, ◌≡◌, length};
+ghost use Rattle.collector.specs.Collector.{bytes_fit, held, least_to, part_length, parts, well_formed};
 ghost use Rattle.collector.specs.Shape.{ShapeFits, complete_shape, filled, fits, free, holes, most, partly, shape_of, shape_with};
-ghost use Rattle.collector.specs.Stored.{known_length, collector_of, well_stored};
+ghost use Rattle.collector.specs.Stored.{collector_of, well_stored};
 
 use crate::Collector;
 use std::cmp::max;
