@@ -32,14 +32,23 @@ pub(crate) fn unit(n: u8) -> Option<usize> {
     Some(unit_named(LogicalUnit::try_from(n).ok()?))
 }
 
+// A type whose names come of numbers, and turn back to them.
+fn named<T: TryFrom<u8, Error = ()> + Into<u8> + Copy, F: Fn(T) -> u8>(
+    n: u8,
+    place: F,
+) -> Option<usize>
+    requires { F.IsAlwaysCallable place }
+{
+    let name = T::try_from(n).ok()?;
+    Some(two(name.into(), place(name)))
+}
+
 pub(crate) fn authentication(n: u8) -> Option<usize> {
-    let algorithm = AuthenticationAlgorithm::try_from(n).ok()?;
-    Some(two(algorithm.into(), algorithm as u8))
+    named(n, |algorithm: AuthenticationAlgorithm| algorithm as u8)
 }
 
 pub(crate) fn integrity(n: u8) -> Option<usize> {
-    let algorithm = IntegrityAlgorithm::try_from(n).ok()?;
-    Some(two(algorithm.into(), algorithm as u8))
+    named(n, |algorithm: IntegrityAlgorithm| algorithm as u8)
 }
 
 pub(crate) fn confidentiality_named(algorithm: ConfidentialityAlgorithm) -> usize {
@@ -47,15 +56,13 @@ pub(crate) fn confidentiality_named(algorithm: ConfidentialityAlgorithm) -> usiz
 }
 
 pub(crate) fn confidentiality(n: u8) -> Option<usize> {
-    Some(confidentiality_named(ConfidentialityAlgorithm::try_from(n).ok()?))
+    named(n, |algorithm: ConfidentialityAlgorithm| algorithm as u8)
 }
 
 pub(crate) fn auth_type(n: u8) -> Option<usize> {
-    let kind = AuthType::try_from(n).ok()?;
-    Some(two(kind.into(), kind as u8))
+    named(n, |kind: AuthType| kind as u8)
 }
 
 pub(crate) fn privilege(n: u8) -> Option<usize> {
-    let level = PrivilegeLevel::try_from(n).ok()?;
-    Some(two(level.into(), level as u8))
+    named(n, |level: PrivilegeLevel| level as u8)
 }
