@@ -1,6 +1,6 @@
 // The standard's cipher suite records, read strictly and written: document 02, C-14; IPMI 2.0, Table 22-18.
-ghost use Rattle.std.specs.Prelude.{◌≡◌, Some, None, [], ◌∷◌, ◌++◌, suc, ◌+◌, ◌<◌, ◌≤◌, length, take, true, if◌then◌else◌};
-ghost use Rattle.tagged.specs.Format.{all_fit, confidentiality_tag, integrity_tag, own_start, owner_fits, standard_start};
+ghost use Rattle.std.specs.Prelude.{ℕ, ◌≡◌, Some, None, [], ◌∷◌, ◌++◌, suc, ◌+◌, ◌<◌, ◌≤◌, length, take, true, if◌then◌else◌};
+ghost use Rattle.tagged.specs.Format.{all_fit, confidentiality_tag, fits, integrity_tag, own_start, owner_fits, standard_start};
 ghost use Rattle.tagged.specs.TaggedRecords.{body_at, count_of, end_of, entry, listing_of, numbers_in, reach, record_at, retagged, strict_numbers_of, strict_step_at, suite_from, suite_written};
 ghost use Rattle.base.specs.Choice.{◌=?◌};
 ghost use Rattle.base.specs.Field.{byte};
@@ -292,6 +292,13 @@ fn owner_fits(owner: Owner) -> bool
     }
 }
 
+// Whether the format has room for a record's numbers, whatever its own.
+fn fits(owner: Owner, authentication: u8, integrity: &[u8], confidentiality: &[u8]) -> bool
+    ensures { (n : ℕ) → result ≡ fits (suite_from owner n authentication integrity.now confidentiality.now) }
+{
+    owner_fits(owner) && authentication < NUMBERS && all_fit(integrity) && all_fit(confidentiality)
+}
+
 // The parts of a record one behind the other.
 fn write_parts(
     head: &[u8],
@@ -329,16 +336,7 @@ pub fn write(
 ) -> Result<usize, Refusal>
     ensures { Writes (suite_written (suite_from owner number authentication integrity.now confidentiality.now)) result out.old out.new }
 {
-    if !owner_fits(owner) {
-        return Err(Refusal::NoForm);
-    }
-    if NUMBERS <= authentication {
-        return Err(Refusal::NoForm);
-    }
-    if !all_fit(integrity) {
-        return Err(Refusal::NoForm);
-    }
-    if !all_fit(confidentiality) {
+    if !fits(owner, authentication, integrity, confidentiality) {
         return Err(Refusal::NoForm);
     }
     match owner {

@@ -7,7 +7,6 @@ use lib.Dec.{ltb}
 use Prim.Native.Nat.{ℕ, zero, suc, ◌+◌, ◌-◌, ◌*◌, ◌%◌, ◌≤◌, ◌<◌}
 use native.Mathlib.Nat.{zero-add}
 use native.Mathlib.Omega.{arith}
-use borrow.Author.Tests.{lt-ltb}
 use borrow.Rule.Slice.PartMut.{put_mid}
 use lib.ListN.{length, get_or, drop, set, drop_of_length-le, length-append, length-map}
 use lib.Seq.{paste}
@@ -16,11 +15,11 @@ use Rattle.base.specs.Outcome.{accepted}
 use Rattle.base.specs.Written.{Writes}
 use Rattle.base.specs.declared.refusal.Refusal.TheVariants.{NoRoom}
 use Rattle.base.proofs.written.Laws.{fitting, joined, lacking, stored, whole}
-use Rattle.tagged.specs.Format.{all_fit, authentication_tag, confidentiality_tag, integrity_tag, owner_fits, start_bytes, tagged}
+use Rattle.tagged.specs.Format.{all_fit, authentication_tag, confidentiality_tag, fits, integrity_tag, owner_fits, start_bytes, tagged}
 use Rattle.tagged.specs.TaggedRecords.{number_in, numbers_in, retagged, start_length, suite_from, suite_written}
 use Rattle.tagged.specs.declared.tagged_records.Owner.{Owner}
 use Rattle.tagged.specs.declared.tagged_records.Owner.TheVariants.{Standard, Vendor}
-use Rattle.tagged.proofs.tagged_records.Format.{fit_head}
+use Rattle.tagged.proofs.tagged_records.Format.{both_true, fit_head}
 
 -- Bytes under a tag.
 
@@ -103,8 +102,11 @@ fit_numbers tag (n ∷ numbers) e =
     let z : number_in n ≡ n = omega arith in
     rw (z, fit_numbers tag numbers rest)
 
-pub as_written : (owner : Owner) (number authentication : ℕ) (integrity confidentiality : List ℕ) → owner_fits owner ≡ true → authentication < 64 → all_fit integrity ≡ true → all_fit confidentiality ≡ true
+pub as_written : (owner : Owner) (number authentication : ℕ) (integrity confidentiality : List ℕ) → fits (suite_from owner number authentication integrity confidentiality) ≡ true
     → suite_written (suite_from owner number authentication integrity confidentiality)
     ≡ accepted ((start_bytes owner number ++ (authentication ∷ [])) ++ (retagged integrity_tag integrity ++ retagged confidentiality_tag confidentiality))
-as_written owner number authentication integrity confidentiality o a i c =
-    rw (o, lt-ltb authentication 64 a, i, c, fit_numbers integrity_tag integrity i, fit_numbers confidentiality_tag confidentiality c, append_assoc, zero-add)
+as_written owner number authentication integrity confidentiality f =
+    let (o, q) = both_true (owner_fits owner) _ f in
+    let (a, r) = both_true (ltb authentication 64) _ q in
+    let (i, c) = both_true (all_fit integrity) (all_fit confidentiality) r in
+    rw (f, fit_numbers integrity_tag integrity i, fit_numbers confidentiality_tag confidentiality c, append_assoc, zero-add)

@@ -1,6 +1,6 @@
 use native.Mathlib.Omega.{arith}
 use lib.ListN.{length-set}
-use Rattle.tagged.proofs.tagged_records.Writing.{retagged_all, tag_stored}
+use Rattle.tagged.proofs.tagged_records.Writing.{tag_stored}
 use Rattle.tagged.proofs.tagged_records.put_tagged.Goals as goal
 
 pub loop-i-preserved : goal.loop-i-preserved
@@ -8,6 +8,3 @@ loop-i-preserved c =
     let l = c.loop-i.invariant in
     let a = c.args in
     (simp length-set l.0, tag_stored a.tag a.out.now a.bytes.now c.loop-i.out c.loop-i.i l.1 (omega arith) (omega arith))
-
-pub returns : goal.returns
-returns c = retagged_all c.args.tag c.args.out.now c.args.bytes.now c.loop-i.out c.loop-i.i c.loop-i.invariant.1 (omega arith) (omega arith)
