@@ -109,7 +109,7 @@ impl ChannelInfo {
         if 0xFF_FFFF < vendor {
             return Err(Refusal::NoForm);
         }
-        let sessions = session * 64 + active;
+        let sessions = session << 6 | active;
         let [low, middle, high] = bytes::<3>(vendor as u64);
         let AuxChannelInfo { byte1, byte2 } = self.aux_info;
         Ok([
