@@ -49,10 +49,6 @@ module _ (p : ℕ → Bool) where
       (λ ge. let q : k ≡ n = omega arith in rw q (both_right (all_below n p) (p n) e))
       (lt_or_le k n)
 
-  pub all_not : (n : ℕ) (k : ℕ) → k < n → p k ≡ false → all_below n p ≡ false
-  all_not n k l e =
-      ⊎_elim (λ t. absurd (true_not_false (all_at n t k l) e)) (λ f. f) (bool_cases (all_below n p))
-
 -- the bound from below
 
 pub end_small : (i m : ℕ) → m ≤ 1 → end_of i m ≡ 0

@@ -1,21 +1,19 @@
 -- What is stored is what a search finds, and what each entry answers by it.
-use Prim.Native.Nat.{ℕ, suc, ◌+◌, ◌-◌, ◌*◌, ◌≤◌, ◌<◌}
+use Prim.Native.Nat.{ℕ, suc, ◌+◌, ◌-◌, ◌*◌, ◌≤◌}
 use mathlib.Core.Bool.{Bool, true, false}
 use mathlib.Core.List.{List, [], ◌∷◌}
 use mathlib.Core.Logic.{⊎_elim}
-use mathlib.Core.Path.{◌≡◌, refl, sym, ap, ◌∙◌, subst}
+use mathlib.Core.Path.{◌≡◌, refl, sym, ap, ◌∙◌}
 use native.Mathlib.Numerals.{add-one}
 use native.Mathlib.Omega.{arith}
-use lib.Dec.{eqb, ltb}
-use lib.ListN.{length, get_or, set, take, drop}
+use lib.Dec.{eqb}
+use lib.ListN.{length, get_or, set}
 use lib.Seq.{paste, get_or-set_same, get_or-set_other}
 use mir.Val.{bool_byte}
-use borrow.Author.Tests.{eq-eqb, ne_eqb, lt-ltb, eqb-true}
+use borrow.Author.Tests.{eq-eqb, ne_eqb, eqb-true}
 use Rattle.base.specs.Outcome.{accepted, refused, ◌>>=◌}
 use Rattle.base.specs.Refusal.{refusal}
-use Rattle.base.specs.Verdict.{Gives}
 use Rattle.base.specs.declared.refusal.Refusal.{Refusal}
-use Rattle.base.proofs.Verdict.{giving, refusing}
 use Rattle.std.specs.Prelude.{Result, Ok, Err}
 use Rattle.collector.specs.Collector.{held, lowest, least_to, complete_by, is_complete, well_formed, put, taking, standing_of, list_by}
 use Rattle.collector.specs.declared.Status.TheVariants.{Complete, Missing}
@@ -26,7 +24,7 @@ use Rattle.collector.specs.declared.tested.Judgement.{Judgement}
 use Rattle.collector.specs.declared.tested.Judgement.TheVariants.{Store, Keep}
 use Rattle.collector.specs.declared.shape.Shape.{Shape}
 use Rattle.collector.proofs.Basic.{both_left, both_right, bool_cases, eq_or_ne, low_small}
-use Rattle.collector.proofs.Complete.{lowest_below, lowest_le}
+use Rattle.collector.proofs.Complete.{lowest_below}
 use Rattle.collector.proofs.Entries.{lowest_by, complete_by_lem, standing_complete, standing_missing}
 use Rattle.collector.proofs.Step.{wf_marks}
 
@@ -45,9 +43,6 @@ module _ (bs ms : List ℕ) (s : Shape) (es : s ≡ shape_of ms) (w : well_forme
   by_complete q b f =
       let g : well_stored (collector_of bs ms ks) ≡ eqb (get_or ks 1 0) (bool_byte (complete_by ms)) = rw (w, eq-eqb (get_or ks 0 0) (lowest ms 64) (q ∙ low)) in
       ap (λ (z : Bool). eqb (get_or ks 1 0) (bool_byte z)) (f ∙ complete_by_lem bs ms s es w) ∙ sym g
-
-pub not_formed : (bs ms ks : List ℕ) → well_formed (held bs ms) ≡ false → well_stored (collector_of bs ms ks) ≡ false
-not_formed bs ms ks w = rw w
 
 -- a collector that passes the test is the one that its parts make
 
@@ -107,21 +102,6 @@ module _ (k : Collector) (i : ℕ) (d : List ℕ) where
     judged n (Ok Keep) e = on ∙ rw e (ap accepted (knowing_is k w n))
     judged n (Err r) e = on ∙ rw e
 
-  -- what a judgement leaves
-
-  module _ (v : Result Judgement Refusal) (j : JudgedStored k i d v) where
-    pub to_store : v ≡ Ok Store → JudgedStored k i d (Ok Store)
-    to_store e = subst (JudgedStored k i d) e j
-
-    pub left_store : v ≡ Ok Store → (n : Collector) → n ≡ knowing (put (parts_of k) i d) → Gives (taking_stored k i d) k (Ok tt) n
-    left_store e n q = giving k n ((to_store e).0 ∙ ap accepted (sym q))
-
-    pub left_keep : v ≡ Ok Keep → Gives (taking_stored k i d) k (Ok tt) k
-    left_keep e = giving k k (subst (JudgedStored k i d) e j)
-
-    pub left_refuse : (r : Refusal) → v ≡ Err r → Gives (taking_stored k i d) k (Err r) k
-    left_refuse r e = refusing k r (subst (JudgedStored k i d) e j)
-
 -- a part is stored, and what a search finds then
 
 two_set : (ks : List ℕ) (x y : ℕ) → length ks ≡ 2 → set (set ks 0 x) 1 y ≡ x ∷ y ∷ []
@@ -143,15 +123,6 @@ module _ (bs ms ks : List ℕ) (i : ℕ) (d : List ℕ) where
       let f : ms' ≡ set ms i (suc (length d)) = q ∙ ap (set ms i) (add-one (length d)) in
       let u : ks' ≡ found ms' = u' ∙ two_set ks x (bool_byte b) lk ∙ rw (ex, eb) in
       ap (collector_of bs' ms') u ∙ ap (λ (c : List ℕ). collector_of bs' c (found c)) f ∙ ap (λ (c : List ℕ). knowing (held c (set ms i (suc (length d))))) p
-
--- by the lowest unheard index
-
-module _ (ms : List ℕ) (x : ℕ) (e : x ≡ lowest ms 64) where
-  pub ended_last : 63 < x → true ≡ complete_by ms
-  ended_last h = let q : lowest ms 64 ≡ 64 = omega (arith, lowest_le ms 64) in rw (eq-eqb (lowest ms 64) 64 q)
-
-  pub ended_before : x ≤ 63 → (x ≡ 0 → ⊥) → ltb (get_or ms (x - 1) 0) 17 ≡ complete_by ms
-  ended_before h n = rw (ne_eqb (lowest ms 64) 64 (λ q. omega arith), lt-ltb 0 (lowest ms 64) (omega arith), e)
 
 -- where it stands
 
@@ -176,10 +147,6 @@ module _ (k : Collector) where
       (bool_cases (is_complete (parts_of k))))
       (λ (u : well_stored k ≡ false). let q : ◌≡◌ {A = ℕ} 0 1 = cc (e, untold u) in absurd (omega arith))
       (bool_cases (well_stored k))
-
-  -- the first bytes of the array, as the code cuts them out
-  pub told_list : (n : ℕ) → standing_stored k ≡ accepted (Complete n) → list_stored k ≡ accepted (take (n - 0) (drop 0 k.bytes))
-  told_list n e = let z : n - 0 ≡ n = omega arith in by_standing ∙ rw (e, z)
 
   pub unlisted : (i : ℕ) → standing_stored k ≡ accepted (Missing i) → list_stored k ≡ refused 13 (i ∷ [])
   unlisted i e = by_standing ∙ rw e

@@ -441,9 +441,6 @@ module _ (ms : List ℕ) (s : Shape) (h : ShapeFits ms s) where
     pub last_filled : 1 < get_or ms (t - 1) 0
     last_filled = top_at ms 64 (t - 1) last_is
 
-    pub last_most : get_or ms (t - 1) 0 ≤ 17
-    last_most = omega (arith, le_most ms 64 (t - 1) last_small, fit_of.small)
-
     pub low_is : 16 * (t - 1) + (get_or ms (t - 1) 0 - 1) ≡ least_to ms 64
     low_is = sym (low_last ms fit_of (t - 1) last_is)
 
