@@ -1,5 +1,6 @@
 -- Get Channel Cipher Suites. Document 01, "Suites"; IPMI 2.0, Table 22-17.
 use Rattle.std.specs.Prelude.{ℕ, zero, suc, ◌+◌, bit_or, bit_xor, Bool, true, false, ◌&&◌, List, [], ◌∷◌, map, length, take, drop, if◌then◌else◌, Option, Some, None}
+use Rattle.std.specs.List.{list_all}
 use Rattle.auth.specs.Algorithms as Algorithms
 use Rattle.auth.specs.declared.algorithms.AuthenticationAlgorithm.{AuthenticationAlgorithm}
 use Rattle.auth.specs.declared.algorithms.ConfidentialityAlgorithm.{ConfidentialityAlgorithm}
@@ -66,8 +67,7 @@ part_of response = if part_length <? length response then refused 2 [] else acce
 
 -- every byte is zero
 unfoldable pub zeros : List ℕ → Bool
-zeros [] = true
-zeros (byte ∷ bytes) = if byte =? 0 then zeros bytes else false
+zeros bytes = list_all (λ byte. byte =? 0) bytes
 
 -- 9 for a length above a part's, or a byte beyond the length that is not zero
 abbrev pub suites_bytes : ChannelCipherSuites → Outcome (List ℕ)

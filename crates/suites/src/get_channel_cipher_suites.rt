@@ -1,6 +1,6 @@
 // Get Channel Cipher Suites, App 54h: IPMI 2.0, Table 22-17; the Rust's get_channel_cipher_suites.rs.
-ghost use Rattle.std.specs.Prelude.{◌≡◌, drop, is_some, length, take, false};
-ghost use Rattle.suites.specs.GetChannelCipherSuites.{Typed, authentication_of, command_bytes, command_for, command_of, command_on, confidentiality_of, integrity_of, moved, nothing, numbers_of, part_of, row_of, step_at, step_number, step_of, suite_for, suite_of, suites_bytes, zeros};
+ghost use Rattle.std.specs.Prelude.{◌≡◌, is_some, length, take, false};
+ghost use Rattle.suites.specs.GetChannelCipherSuites.{Typed, authentication_of, command_bytes, command_for, command_of, command_on, confidentiality_of, integrity_of, moved, nothing, numbers_of, part_of, row_of, step_at, step_number, step_of, suite_for, suite_of, suites_bytes};
 ghost use Rattle.base.specs.Outcome.{accepted};
 ghost use Rattle.base.specs.Part.{Part};
 ghost use Rattle.base.specs.Refusal.{said};
@@ -85,20 +85,6 @@ pub struct ChannelCipherSuites {
     pub record_data: [u8; Collector::PART],
 }
 
-// Whether all bytes from a place on are zero.
-fn zero_from(bytes: &[u8], at: usize) -> bool
-    ensures { result ≡ zeros (drop at bytes.now) }
-{
-    let mut i = at;
-    while i < bytes.len() {
-        if bytes[i] != 0 {
-            return false;
-        }
-        i += 1;
-    }
-    true
-}
-
 // The filled part of the lent bytes: as many as the length says, all if fewer. The Rust's Deref.
 pub fn filled(bytes: &[u8], data_length: usize) -> &[u8]
     ensures { Part bytes.entry result (take data_length bytes.now) }
@@ -137,10 +123,11 @@ impl ChannelCipherSuites {
         if Collector::PART < self.data_length {
             return Err(Refusal::NoForm);
         }
-        if !zero_from(&self.record_data, self.data_length) {
+        let (part, rest) = self.record_data.split_at(self.data_length);
+        if !rest.iter().all(|byte| *byte == 0) {
             return Err(Refusal::NoForm);
         }
-        place(filled(&self.record_data, self.data_length), out)
+        place(part, out)
     }
 }
 

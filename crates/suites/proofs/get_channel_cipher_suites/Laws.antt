@@ -101,7 +101,7 @@ unfolding zeros
 all_zero [] e = refl
 all_zero (x ∷ t) e = go (eqb x 0) refl e (all_zero t)
   where
-    go : (b : Bool) → eqb x 0 ≡ b → (if b then zeros t else false) ≡ true → (zeros t ≡ true → t ≡ replicate (length t) 0) → x ∷ t ≡ replicate (suc (length t)) 0
+    go : (b : Bool) → eqb x 0 ≡ b → b && zeros t ≡ true → (zeros t ≡ true → t ≡ replicate (length t) 0) → x ∷ t ≡ replicate (suc (length t)) 0
     go true p e rest = let z = eqb-true x 0 p in let r = rest e in cc
     go false p e rest = let z : ◌≡◌ {A = ℕ} 0 1 = cc in absurd (omega arith)
 
