@@ -1,7 +1,7 @@
 // The standard's cipher suite records, read strictly and written: document 02, C-14; IPMI 2.0, Table 22-18.
 ghost use Rattle.std.specs.Prelude.{ℕ, ◌≡◌, Some, None, [], ◌∷◌, ◌++◌, suc, ◌+◌, ◌<◌, ◌≤◌, length, take, true, if◌then◌else◌};
 ghost use Rattle.tagged.specs.Format.{all_fit, confidentiality_tag, fits, integrity_tag, own_start, owner_fits, standard_start};
-ghost use Rattle.tagged.specs.TaggedRecords.{body_at, count_of, end_of, entry, listing_of, numbers_in, reach, record_at, retagged, strict_numbers_of, strict_step_at, suite_from, suite_written};
+ghost use Rattle.tagged.specs.TaggedRecords.{body_at, count_of, end_of, entries_of, entry, entry_length, listing_of, numbers_in, reach, record_at, retagged, strict_numbers_of, strict_step_at, suite_from, suite_written};
 ghost use Rattle.base.specs.Choice.{◌=?◌};
 ghost use Rattle.base.specs.Field.{byte};
 ghost use Rattle.base.specs.Outcome.{accepted};
@@ -217,23 +217,31 @@ fn entry_at(list: &[u8], at: usize) -> [u8; ENTRY]
     [list[at + 1], 1, list[at + 2], list[at + 3], list[at + 4]]
 }
 
+// The first bytes of each record's entry, one behind the other. They are counted before one is written.
+fn listed<const WIDTH: usize>(list: &[u8], out: &mut [u8]) -> Result<usize, Refusal>
+    requires { (0 < WIDTH) × (WIDTH ≤ entry_length) }
+    ensures { Writes (entries_of WIDTH list.now) result out.old out.new }
+{
+    let n = count(list)?;
+    if out.len() / WIDTH < n {
+        return Err(Refusal::NoRoom);
+    }
+    let mut from: usize = 0;
+    let mut length: usize = 0;
+    while from < list.len() {
+        let end = end_at(list, from)?;
+        out[length..length + WIDTH].copy_from_slice(&entry_at(list, from)[..WIDTH]);
+        length += WIDTH;
+        from = end;
+    }
+    Ok(length)
+}
+
 // The suite numbers of a sequence: of all records, in order.
 pub fn suite_numbers(list: &[u8], out: &mut [u8]) -> Result<usize, Refusal>
     ensures { Writes (strict_numbers_of list.now) result out.old out.new }
 {
-    let n = count(list)?;
-    if out.len() < n {
-        return Err(Refusal::NoRoom);
-    }
-    let mut position: usize = 0;
-    let mut i: usize = 0;
-    while position < list.len() {
-        let end = end_at(list, position)?;
-        out[i] = list[position + 1];
-        i += 1;
-        position = end;
-    }
-    Ok(i)
+    listed::<1>(list, out)
 }
 
 // The listing of a sequence, five bytes a record: its number, 0 for a standard suite or 1 for a vendor's own, and the
@@ -241,19 +249,7 @@ pub fn suite_numbers(list: &[u8], out: &mut [u8]) -> Result<usize, Refusal>
 pub fn suite_listing(list: &[u8], out: &mut [u8]) -> Result<usize, Refusal>
     ensures { Writes (listing_of list.now) result out.old out.new }
 {
-    let n = count(list)?;
-    if out.len() / ENTRY < n {
-        return Err(Refusal::NoRoom);
-    }
-    let mut from: usize = 0;
-    let mut length: usize = 0;
-    while from < list.len() {
-        let end = end_at(list, from)?;
-        out[length..length + ENTRY].copy_from_slice(&entry_at(list, from));
-        length += ENTRY;
-        from = end;
-    }
-    Ok(length)
+    listed::<ENTRY>(list, out)
 }
 
 // The numbers of algorithm bytes, or numbers, each under a tag.

@@ -1,26 +1,25 @@
 -- Laws of the listing: how long it is, and a turn of the loop that writes it.
 use mathlib.Core.Path.{◌≡◌, refl, sym, ◌∙◌, ap}
 use mathlib.Core.List.{List, [], ◌∷◌, ◌++◌, append_assoc, append-nil, map}
-use Rattle.std.specs.Prelude.{Result, Ok, Err}
-use Prim.Native.Nat.{ℕ, suc, ◌+◌, ◌-◌, ◌*◌, ◌/◌, ◌≤◌, ◌<◌}
+use Rattle.std.specs.Prelude.{Ok, Err}
+use Prim.Native.Nat.{ℕ, ◌+◌, ◌-◌, ◌*◌, ◌/◌, ◌≤◌, ◌<◌}
 use native.Mathlib.Nat.{div-lt_iff_lt-mul, le-div_iff_mul-le, suc-mul, zero-mul}
 use native.Mathlib.Omega.{arith}
 use borrow.Rule.Slice.PartMut.{put_mid}
-use lib.ListN.{length, drop, length-append, length-drop, set, take}
-use lib.Seq.{drop-cons, length-take-le, take_all}
-use Rattle.base.specs.Field.{byte}
+use lib.ListN.{length, drop, length-append, length-drop, take}
+use lib.Seq.{length-take-le}
 use Rattle.base.specs.Outcome.{Outcome, accepted, refused, ◌>>=◌}
-use Rattle.base.specs.Refusal.{refusal, said}
+use Rattle.base.specs.Refusal.{refusal}
 use Rattle.base.specs.Written.{Writes}
 use Rattle.base.specs.declared.refusal.Refusal.{Refusal}
 use Rattle.base.specs.declared.refusal.Refusal.TheVariants.{NoRoom}
 use Rattle.base.proofs.Outcome.{apart, steps}
 use Rattle.base.proofs.written.Laws.{fitting, joined, lacking}
-use Rattle.tagged.specs.TaggedRecords.{count_of, end_of, entries, entries_of, entry, entry_length, record_at, records_of, strict_numbers_of}
+use Rattle.tagged.specs.TaggedRecords.{count_of, entries, entries_of, entry, entry_length, record_at, records_of, strict_numbers_of}
 use Rattle.tagged.specs.declared.tagged_records.Owner.{Owner}
 use Rattle.tagged.specs.declared.tagged_records.Owner.TheVariants.{Standard, Vendor}
 use Rattle.tagged.specs.declared.tagged_records.TaggedRecord.{TaggedRecord}
-use Rattle.tagged.proofs.tagged_records.Steps.{ends, numbered, rest_all, rest_end, rest_read, rest_of, told_end}
+use Rattle.tagged.proofs.tagged_records.Steps.{rest_all, rest_end, rest_read, rest_of}
 
 entry_length_lem : (r : TaggedRecord) → length (entry r) ≡ entry_length
 entry_length_lem r = go r.owner
@@ -28,9 +27,6 @@ entry_length_lem r = go r.owner
     go : (owner : Owner) → length (entry (record { owner = owner; number = r.number; authentication = r.authentication; integrity = r.integrity; confidentiality = r.confidentiality; end = r.end })) ≡ entry_length
     go Standard = refl
     go (Vendor v) = refl
-
-pub whole_entry : (r : TaggedRecord) → take entry_length (entry r) ≡ entry r
-whole_entry r = let e = entry_length_lem r in take_all entry_length (entry r) (omega arith)
 
 module _ (width : ℕ) (w : width ≤ entry_length) where
   part_length_lem : (r : TaggedRecord) → length (take width (entry r)) ≡ width
@@ -161,29 +157,3 @@ module _ {list : List ℕ} {width : ℕ} {buffer out : List ℕ} {at end : ℕ} 
           let z : end + width ≡ length t.done + length (take width (entry r)) = omega arith in
           turn (t.done ++ take width (entry r)) left f (rw append_assoc a) (rw append_assoc l)
           (rw (b, z, i, t.out_is) (joined t.done (take width (entry r)) buffer)) (rw length-append (omega arith))
-
--- The list of numbers: a turn stores one byte.
-
-set_behind : (done rest : List ℕ) (x : ℕ) → set (done ++ rest) (length done) x ≡ done ++ set rest 0 x
-set_behind [] rest x = refl
-set_behind (d ∷ done) rest x = ap (λ (l : List ℕ). d ∷ l) (set_behind done rest x)
-
-module _ {list buffer out : List ℕ} {at i : ℕ} (t : Turn list 1 buffer out at i) (h : at < length list) {r : TaggedRecord} (e : record_at list at ≡ accepted r) where
-  pub turn_stored : Turn list 1 buffer (set out i (byte (at + 1) list)) r.end (i + 1)
-  turn_stored =
-      let (left, f, a, l) = next t h (omega arith) e in
-      let n = numbered list at e in
-      let room = turn_room t h (omega arith) e in
-      let k = t.end_is in
-      let x : length (t.done ++ (r.number ∷ [])) ≡ suc (length t.done) = simp length-append (omega arith) in
-      turn (t.done ++ (r.number ∷ [])) left f (rw append_assoc a) (rw append_assoc l)
-      (rw (x, ← n, t.out_is, k, set_behind t.done (drop (length t.done) buffer) r.number, drop-cons buffer (length t.done) 0 (omega arith), append_assoc))
-      (rw x (omega arith))
-
--- a turn by the end that was found
-pub turn_number : {list buffer out : List ℕ} {at i end : ℕ} {a : Result ℕ Refusal} → Turn list 1 buffer out at i → at < length list → said a ≡ end_of (record_at list at) → a ≡ Ok end
-    → (at + 3 ≤ end) × (end ≤ length list) × (i + 1 ≤ length buffer) × Turn list 1 buffer (set out i (byte (at + 1) list)) end (i + 1)
-turn_number {list} {buffer} {out} {at} {i} t h e f =
-    let (r, g, z) = told_end e f in
-    let (p, q) = ends list at g in
-    (omega arith, omega arith, turn_room t h (omega arith) g, rw z at (turn_stored t h g))

@@ -217,16 +217,6 @@ module _ (list : List ℕ) (p : ℕ) where
       go o (short owner w h) e = absurd (apart e)
       go o (untagged owner w h t) e = absurd (apart e)
 
-  -- its number is its second byte
-  pub numbered : {r : TaggedRecord} → record_at list p ≡ accepted r → r.number ≡ byte (p + 1) list
-  numbered {r} e = go (record_at list p) view e
-    where
-      go : (o : Outcome TaggedRecord) → View list p o → o ≡ accepted r → r.number ≡ byte (p + 1) list
-      go o (whole owner w h t) e = sym (ap (elim [ accepted r ↦ r.number | refused n v ↦ 0 ]) e)
-      go o (unowned w) e = absurd (apart e)
-      go o (short owner w h) e = absurd (apart e)
-      go o (untagged owner w h t) e = absurd (apart e)
-
   -- a step, by the record that is read
   pub step_end : length list ≤ p → accepted None ≡ strict_step_at list p
   step_end h = rw (le-ltb p (length list) h)
