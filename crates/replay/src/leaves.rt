@@ -32,7 +32,7 @@ pub(crate) fn unit(n: u8) -> Option<usize> {
     Some(unit_named(LogicalUnit::try_from(n).ok()?))
 }
 
-// A type whose names come of numbers, and turn back to them.
+// Of a type whose names are made of numbers and turn back to them.
 fn named<T: TryFrom<u8, Error = ()> + Into<u8> + Copy, F: Fn(T) -> u8>(
     n: u8,
     place: F,

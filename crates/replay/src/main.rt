@@ -2,7 +2,7 @@
 // tests/oracle and tests/model what the Rust crate and the models answer.
 #![tactic(auto)]
 
-ghost use Rattle.std.specs.Prelude.{◌<◌, ◌≤◌, length};
+ghost use Rattle.std.specs.Prelude.{◌≤◌, length};
 
 use crate::question::answer;
 use base::little::bytes;
