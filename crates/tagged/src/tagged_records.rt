@@ -179,7 +179,7 @@ fn end_at(list: &[u8], position: usize) -> Result<usize, Refusal>
     Ok(reach(list, CONFIDENTIALITY, confidentiality))
 }
 
-// How many records the list has.
+// How many records the list has. Each begins where the one before it ends.
 pub fn count(list: &[u8]) -> Result<usize, Refusal>
     ensures { said result ≡ count_of list.now }
 {
