@@ -210,22 +210,22 @@ impl ChannelCollector {
         })
     }
 
-    pub fn answer(self, index: u8, response: &[u8]) -> ChannelAnswered
+    // A refused one is given back as it came.
+    pub fn answer(mut self, index: u8, response: &[u8]) -> ChannelAnswered
         ensures { Gives (taking_from self index response.now) self result.verdict result.collector }
     {
-        let mut left = self;
         let verdict = answer_from(
-            left.channel,
-            &mut left.from,
-            &mut left.collector.bytes,
-            &mut left.collector.marks,
-            &mut left.collector.known,
+            self.channel,
+            &mut self.from,
+            &mut self.collector.bytes,
+            &mut self.collector.marks,
+            &mut self.collector.known,
             index,
             response,
         );
         ChannelAnswered {
             verdict,
-            collector: left,
+            collector: self,
         }
     }
 

@@ -64,5 +64,5 @@ collected_suites_unique κs a ok z z' w w' q q' = writer 1 q q'
 pub iter_parse_full_data_unique : Unique p.get_channel_cipher_suites.Iter.parse_full_data.Kinds.ps p.get_channel_cipher_suites.Iter.parse_full_data.Kinds.r p.get_channel_cipher_suites.Iter.parse_full_data.Reads.Asked p.get_channel_cipher_suites.Iter.parse_full_data.Reads.Learnt
 iter_parse_full_data_unique κs a ok z z' w w' q q' = (rw (q.0, q.1.0, q.1.1, q'.0, q'.1.0, q'.1.1), refl)
 
-pub iter_next_unique : Unique p.get_channel_cipher_suites.Iter.next.Kinds.ps p.get_channel_cipher_suites.Iter.next.Kinds.r p.get_channel_cipher_suites.Iter.next.Reads.Asked p.get_channel_cipher_suites.Iter.next.Reads.Learnt
-iter_next_unique κs a ok z z' w w' q q' = (both q.0 q'.0, ap (λ x. (x, tt)) (both q.1 q'.1))
+pub iter_next_unique : Unique p.get_channel_cipher_suites.IterIterator.next.Kinds.ps p.get_channel_cipher_suites.IterIterator.next.Kinds.r p.get_channel_cipher_suites.IterIterator.next.Reads.Asked p.get_channel_cipher_suites.IterIterator.next.Reads.Learnt
+iter_next_unique κs a ok z z' w w' q q' = (both q.0.0 q'.0.0, ap (λ x. (x, tt)) (both q.0.1 q'.0.1))

@@ -1,5 +1,5 @@
 // Get Channel Cipher Suites, App 54h: IPMI 2.0, Table 22-17; the Rust's get_channel_cipher_suites.rs.
-ghost use Rattle.std.specs.Prelude.{◌≡◌, is_some, length, take, false};
+ghost use Rattle.std.specs.Prelude.{◌≡◌, length, take, false};
 ghost use Rattle.suites.specs.GetChannelCipherSuites.{Typed, authentication_of, command_bytes, command_for, command_of, command_on, confidentiality_of, integrity_of, moved, nothing, numbers_of, part_of, row_of, step_at, step_number, step_of, suite_for, suite_of, suites_bytes};
 ghost use Rattle.base.specs.Outcome.{accepted};
 ghost use Rattle.base.specs.Part.{Part};
@@ -139,108 +139,38 @@ pub struct Row {
     pub confidentiality: u8,
 }
 
+macro_rules! row {
+    ($authentication:literal, $integrity:literal, $confidentiality:literal) => {
+        Row {
+            authentication: $authentication,
+            integrity: $integrity,
+            confidentiality: $confidentiality,
+        }
+    };
+}
+
 // The suites from 0 up.
 const SUITES: [Row; 20] = [
-    Row {
-        authentication: 0,
-        integrity: 0,
-        confidentiality: 0,
-    },
-    Row {
-        authentication: 1,
-        integrity: 0,
-        confidentiality: 0,
-    },
-    Row {
-        authentication: 1,
-        integrity: 1,
-        confidentiality: 0,
-    },
-    Row {
-        authentication: 1,
-        integrity: 1,
-        confidentiality: 1,
-    },
-    Row {
-        authentication: 1,
-        integrity: 1,
-        confidentiality: 2,
-    },
-    Row {
-        authentication: 1,
-        integrity: 1,
-        confidentiality: 3,
-    },
-    Row {
-        authentication: 2,
-        integrity: 0,
-        confidentiality: 0,
-    },
-    Row {
-        authentication: 2,
-        integrity: 2,
-        confidentiality: 0,
-    },
-    Row {
-        authentication: 2,
-        integrity: 2,
-        confidentiality: 1,
-    },
-    Row {
-        authentication: 2,
-        integrity: 2,
-        confidentiality: 2,
-    },
-    Row {
-        authentication: 2,
-        integrity: 2,
-        confidentiality: 3,
-    },
-    Row {
-        authentication: 2,
-        integrity: 3,
-        confidentiality: 0,
-    },
-    Row {
-        authentication: 2,
-        integrity: 3,
-        confidentiality: 1,
-    },
-    Row {
-        authentication: 2,
-        integrity: 3,
-        confidentiality: 2,
-    },
-    Row {
-        authentication: 2,
-        integrity: 3,
-        confidentiality: 3,
-    },
-    Row {
-        authentication: 3,
-        integrity: 0,
-        confidentiality: 0,
-    },
-    Row {
-        authentication: 3,
-        integrity: 4,
-        confidentiality: 0,
-    },
-    Row {
-        authentication: 3,
-        integrity: 4,
-        confidentiality: 1,
-    },
-    Row {
-        authentication: 3,
-        integrity: 4,
-        confidentiality: 2,
-    },
-    Row {
-        authentication: 3,
-        integrity: 4,
-        confidentiality: 3,
-    },
+    row!(0, 0, 0),
+    row!(1, 0, 0),
+    row!(1, 1, 0),
+    row!(1, 1, 1),
+    row!(1, 1, 2),
+    row!(1, 1, 3),
+    row!(2, 0, 0),
+    row!(2, 2, 0),
+    row!(2, 2, 1),
+    row!(2, 2, 2),
+    row!(2, 2, 3),
+    row!(2, 3, 0),
+    row!(2, 3, 1),
+    row!(2, 3, 2),
+    row!(2, 3, 3),
+    row!(3, 0, 0),
+    row!(3, 4, 0),
+    row!(3, 4, 1),
+    row!(3, 4, 2),
+    row!(3, 4, 3),
 ];
 
 // How many there are.
@@ -372,20 +302,13 @@ pub fn step_at(list: &[u8], position: usize, failed: bool) -> Step
     step_number(list, position + 1)
 }
 
-// Whether a step at this place gives a suite.
-fn is_record(list: &[u8], at: usize) -> bool
-    ensures { result ≡ is_some (step_at list.now at false).answer }
-{
-    step_at(list, at, false).answer.is_some()
-}
-
 // How many suites the list has.
 fn count(list: &[u8]) -> usize
     ensures { result ≡ length (numbers_of list.now) }
 {
     let mut n: usize = 0;
     let mut at: usize = 0;
-    while is_record(list, at) {
+    while step_at(list, at, false).answer.is_some() {
         n += 1;
         at += RECORD;
     }
@@ -424,10 +347,14 @@ impl<'a> Iter<'a> {
             failed: false,
         }
     }
+}
 
-    pub fn next(&mut self) -> Option<CipherSuite>
-        ensures { (result ≡ (step_of self.old).answer) × (self.new ≡ moved self.old (step_of self.old)) }
-    {
+impl<'a> Iterator for Iter<'a> {
+    type Item = CipherSuite;
+
+    ghost next_gives = { λ before result after. (result ≡ (step_of before).answer) × (after ≡ moved before (step_of before)) };
+
+    fn next(&mut self) -> Option<CipherSuite> {
         let step = step_at(self.list, self.position, self.failed);
         self.position = step.position;
         self.failed = step.failed;

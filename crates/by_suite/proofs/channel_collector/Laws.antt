@@ -17,18 +17,17 @@ use Rattle.base.specs.Verdict.{Gives}
 use Rattle.base.specs.declared.connection.Channel.{Channel}
 use Rattle.base.specs.declared.refusal.Refusal.{Refusal}
 use Rattle.base.specs.declared.refusal.Refusal.TheVariants.{NoForm}
-use Rattle.base.proofs.Outcome.{apart, otherwise, when, steps}
+use Rattle.base.proofs.Outcome.{otherwise, when, steps}
 use Rattle.base.proofs.connection.Laws.{channel_iff, channel_small}
 use Rattle.base.proofs.Verdict.{giving, refusing, gave, fell}
 use Rattle.collector.specs.Collector.{◌and◌}
-use Rattle.collector.specs.Stored.{well_stored, taking_stored, standing_stored}
+use Rattle.collector.specs.Stored.{well_stored, taking_stored}
 use Rattle.collector.specs.declared.Collector.{Collector}
-use Rattle.collector.specs.declared.Status.{Status}
 use Rattle.collector.proofs.Basic.{bool_cases, eq_or_ne, true_not_false}
-use Rattle.collector.proofs.Stored.{untested, parts_formed}
+use Rattle.collector.proofs.Stored.{untested}
 use Rattle.suites.specs.GetChannelCipherSuites.{zeros}
 use Rattle.suites.proofs.get_channel_cipher_suites.Laws.{zeros_stop, zeros_on, zeros_end}
-use Rattle.by_suite.specs.ChannelCollector.{agrees, channel_collector, current, from_fits, from_for, heard_by, heard_on, start_of, tested_from, taking_from}
+use Rattle.by_suite.specs.ChannelCollector.{agrees, channel_collector, from_fits, heard_by, heard_on, tested_from, taking_from}
 use Rattle.by_suite.specs.GetChannelCipherSuites.{is_channel, list_in, number_in}
 use Rattle.by_suite.specs.declared.channel_collector.ChannelCollector.{ChannelCollector}
 use Rattle.by_suite.proofs.get_channel_cipher_suites.Laws.{NumberOf, number_of}
@@ -37,24 +36,6 @@ use Rattle.by_suite.proofs.get_channel_cipher_suites.Laws.{NumberOf, number_of}
 pub is_made : {A : Type 0} (r : Result A Refusal) → is_ok r ≡ is_accepted (said r)
 is_made (Ok a) = refl
 is_made (Err r) = refl
-
--- a test of one less
-pub pred_eqb : (f n : ℕ) → (f ≡ 0 → ⊥) → eqb (f - 1) n ≡ eqb f (suc n)
-pred_eqb f n z =
-    ⊎_elim (λ (e : f ≡ suc n). let g : f - 1 ≡ n = omega arith in eq-eqb (f - 1) n g ∙ sym (eq-eqb f (suc n) e))
-    (λ (e : f ≡ suc n → ⊥). ne_eqb (f - 1) n (λ (g : f - 1 ≡ n). e (omega (arith, z))) ∙ sym (ne_eqb f (suc n) e)) (eq_or_ne f (suc n))
-
--- what a fresh collector takes answers from, where it is not made for Current
-module _ (c f : ℕ) (ms : List ℕ) (ne : c ≡ current → ⊥) where
-  pub own_start_lem : (n : ℕ) → accepted n ≡ from_for c → eqb f n ≡ from_fits c f ms
-  own_start_lem n e =
-      let (l, g) = when 6 (is_channel c) (sym e) in
-      let z : start_of c ≡ n = cc in
-      let y : start_of c ≡ suc c = rw (ne_eqb c current ne) in
-      rw (ne_eqb c current ne, l) (ap (eqb f) (sym z ∙ y))
-
-  pub no_start : refused 6 [] ≡ from_for c → false ≡ from_fits c f ms
-  no_start e = ⊎_elim (λ (l : is_channel c ≡ true). absurd (apart (rw l at e))) (λ (l : is_channel c ≡ false). rw (ne_eqb c current ne, l)) (bool_cases (is_channel c))
 
 -- the largest mark so far is 0, and the rest are zeros
 pub zeros_next : (s : List ℕ) (i a b : ℕ) → i < length s → b ≡ max a (get_or s i 0) → zeros s ≡ (if eqb a 0 then zeros (drop i s) else false) → zeros s ≡ (if eqb b 0 then zeros (drop (i + 1) s) else false)
@@ -160,15 +141,6 @@ module _ (s : ChannelCollector) where
             let (o, z) = fell (taking_stored s.collector i part) r g refl in
             let t : taking_stored s.collector i (list_in d) ≡ refusal r = ap (taking_stored s.collector i) (sym q) ∙ o in
             rw z (refusing s r (passed n heard_is.0 heard_is.1 ∙ rw t))
-
--- what a status says of the test
-
-module _ (k : Collector) where
-  pub well_told : (t : Status) → accepted t ≡ standing_stored k → well_stored k ≡ true
-  well_told t e = ⊎_elim (λ (w : well_stored k ≡ true). w) (λ (w : well_stored k ≡ false). absurd (apart (sym (rw w at e)))) (bool_cases (well_stored k))
-
-  pub ill_told : refused 9 [] ≡ standing_stored k → well_stored k ≡ false
-  ill_told e = ⊎_elim (λ (w : well_stored k ≡ true). absurd (apart (rw (w, parts_formed k w) at e))) (λ (w : well_stored k ≡ false). w) (bool_cases (well_stored k))
 
 -- the bytes behind the first
 pub rest_is : (d : List ℕ) → take (length d - 1) (drop 1 d) ≡ list_in d

@@ -3,13 +3,12 @@ use mathlib.Core.Logic.{◌↔◌}
 use mathlib.Core.Path.{◌≡◌, refl, sym, ◌∙◌, ap}
 use mathlib.Core.Bool.{Bool, true, false}
 use mathlib.Core.List.{List, [], ◌∷◌, ◌++◌, append-nil}
-use Prim.Native.Nat.{ℕ, suc, ◌+◌, ◌-◌, ◌%◌, ◌≤◌, ◌<◌}
+use Prim.Native.Nat.{ℕ, suc, ◌+◌, ◌%◌, ◌≤◌, ◌<◌}
 use native.Mathlib.Omega.{arith}
 use borrow.Author.Tests.{ltb-true, ltb-false, lt-ltb, le-ltb}
-use borrow.Rule.Slice.PartMut.{mid_of}
 use lib.Dec.{eqb, ltb}
-use lib.ListN.{length, take, drop, replicate, length-append, length-take, length-drop}
-use lib.Seq.{take_all, take-append_seam}
+use lib.ListN.{length, take, drop, replicate, length-append, length-take}
+use lib.Seq.{take-append_seam}
 use Rattle.std.specs.Prelude.{bit_xor, if◌then◌else◌, Result, Ok, Err}
 use Rattle.base.specs.Connection.{channel_of, channel_field}
 use Rattle.base.specs.Field.{Bytes, byte, within}
@@ -24,7 +23,7 @@ use Rattle.base.proofs.connection.Laws.{channel_iff, channel_small, begins_only}
 use Rattle.base.proofs.field.Laws.{below}
 use Rattle.base.proofs.written.Laws.{placed}
 use Rattle.collector.specs.Collector.{last_index, part_length}
-use Rattle.suites.specs.GetChannelCipherSuites.{command_bytes, command_of, command_on, part, part_of, suites_bytes, zeros}
+use Rattle.suites.specs.GetChannelCipherSuites.{command_bytes, command_of, command_on, part, suites_bytes, zeros}
 use Rattle.suites.specs.declared.get_channel_cipher_suites.ChannelCipherSuites.{ChannelCipherSuites}
 use Rattle.suites.specs.declared.get_channel_cipher_suites.ListCommand.{ListCommand}
 use Rattle.suites.proofs.get_channel_cipher_suites.Laws.{above, command_no_form, command_strict, suites_back, suites_given, suites_no_form}
@@ -72,10 +71,6 @@ by_suite_bit s = (
 
 -- The channel's number in an answer, by its length.
 
-pub no_bytes : (s : List ℕ) → length s ≡ 0 → number_in s ≡ refused 1 []
-no_bytes [] h = refl
-no_bytes (x ∷ l) h = absurd (omega arith)
-
 pub too_long : (s : List ℕ) → 17 < length s → number_in s ≡ refused 2 []
 too_long [] h = absurd (omega arith)
 too_long (x ∷ l) h = rw (lt-ltb part_length (length l) (omega arith))
@@ -98,14 +93,6 @@ number_of (x ∷ l) n e =
     let (q, g) = when 6 (is_channel (nibble x)) f in
     let z : nibble x ≡ n = cc in
     record { some = omega arith; short = ltb-false part_length (length l) p; legal = rw (← z) q; first = z }
-
--- the part behind it is read as it is
-pub behind : (s : List ℕ) (n : ℕ) → number_in s ≡ accepted n → part_of (mid_of 1 (length s - 1) s) ≡ accepted (part (list_in s))
-behind s n heard =
-    let k = number_of s n heard in
-    let some = k.some in
-    let all : mid_of 1 (length s - 1) s ≡ list_in s = take_all (length s - 1) (list_in s) (rw length-drop (omega arith)) in
-    rw (all, le-ltb part_length (length (list_in s)) k.short)
 
 -- The writing, given what its parts do.
 
@@ -154,6 +141,9 @@ room_before n l after h = omega (arith, length-append after [])
 
 pub channel_before : (n l : ℕ) (after : List ℕ) → take (l + 1) (n ∷ (after ++ [])) ≡ n ∷ take l after
 channel_before n l after = let z : l + 1 ≡ suc l = omega arith in rw (z, append-nil)
+
+pub front_length : (n l : ℕ) (after : List ℕ) → l ≤ length after → l + 1 ≡ length (take (l + 1) (n ∷ (after ++ [])))
+front_length n l after h = rw (channel_before n l after) (rw (length-take l after) (omega arith))
 
 -- The answer.
 

@@ -1,9 +1,7 @@
 use mathlib.Core.Path.{◌≡◌, refl}
-use native.Mathlib.Omega.{arith}
-use lib.ListN.{length-take}
 use Rattle.std.proofs.Common.{Err, rules}
 use Rattle.base.proofs.written.Laws.{refusing}
-use Rattle.by_suite.proofs.get_channel_cipher_suites.Laws.{part_put, part_not, room_before, channel_before}
+use Rattle.by_suite.proofs.get_channel_cipher_suites.Laws.{part_put, part_not, room_before, channel_before, front_length}
 use Rattle.by_suite.proofs.get_channel_cipher_suites.ChannelSuites.write.Goals as goal
 
 pub returns-in_err-number : goal.returns-in_err-number
@@ -26,9 +24,7 @@ pub slice_bounds-message-end-2 : goal.slice_bounds-message-end-2
 slice_bounds-message-end-2 c = room_before 0 c.in_ok-length.length c.write.new.out (part_put c.args.self.suites c.in_ok-length.ensures c.in_ok-length.length refl).1
 
 pub slice_bounds-place-end : goal.slice_bounds-place-end
-slice_bounds-place-end c =
-    let h = (part_put c.args.self.suites c.in_ok-length.ensures c.in_ok-length.length refl).1 in
-    rw (channel_before c.in_ok-number.number c.in_ok-length.length c.write.new.out) (rw (length-take c.in_ok-length.length c.write.new.out) (omega arith))
+slice_bounds-place-end c = front_length _ c.in_ok-length.length c.write.new.out (part_put c.args.self.suites c.in_ok-length.ensures c.in_ok-length.length refl).1
 
 pub returns : goal.returns
 returns c =

@@ -1,6 +1,5 @@
 use borrow.Author.Tests.{lt-ltb, le-ltb, tests}
 use lib.Dec.{eqb}
-use lib.ListN.{drop}
 use mathlib.Core.Path.{◌≡◌, sym, ap, ◌∙◌}
 use native.Mathlib.Omega.{arith}
 use Rattle.std.proofs.Common.{rules}
