@@ -107,9 +107,9 @@ drop_take (suc at) zero l = let z : 0 - suc at ≡ 0 = omega arith in rw z
 drop_take (suc at) (suc end) [] = sym (take-nil (suc end - suc at))
 drop_take (suc at) (suc end) (x ∷ l) = let z : suc end - suc at ≡ end - at = omega arith in rw z (drop_take at end l)
 
-pub kept_ready : (block : List ℕ) (at end : ℕ) {after out : List ℕ} {held : ℕ} {c : Collector} → Whole (take end block) at c → Keeps (take limit (between at end block)) held block after → limit < length block → enough ≤ length out
-    → Ready held after out c
-kept_ready block at end {after} {out} {held} {c} w k m o =
+pub kept_ready : (block : List ℕ) (at end : ℕ) {after : List ℕ} {held : ℕ} {c : Collector} → Whole (take end block) at c → Keeps (take limit (between at end block)) held block after → limit < length block
+    → Ready held after c
+kept_ready block at end {after} {held} {c} w k m =
     let b : drop at (take end block) ≡ between at end block = drop_take at end block in
     let rest = between at end block in
     let t : take held after ≡ take limit rest = rw (k.count, k.leaves) (take-append_seam (take limit rest) (drop (length (take limit rest)) block)) in
@@ -121,12 +121,11 @@ kept_ready block at end {after} {out} {held} {c} w k m o =
       line = rw t (line_take limit rest l);
       small = omega (arith, k.count);
       more = omega (arith, ap length k.leaves, length-append (take limit rest) (drop (length (take limit rest)) block), length-drop (length (take limit rest)) block);
-      room = o;
     }
 
 -- What is read.
 
-module _ {held : ℕ} {block out : List ℕ} {c : Collector} (part : List ℕ) (r : Ready held block out c) (l : length part ≡ length (mid_of held (length block - held) block)) where
+module _ {held : ℕ} {block : List ℕ} {c : Collector} (part : List ℕ) (r : Ready held block c) (l : length part ≡ length (mid_of held (length block - held) block)) where
   abbrev after : List ℕ
   after = put_mid held (length block - held) block part
 
@@ -146,8 +145,8 @@ module _ {held : ℕ} {block out : List ℕ} {c : Collector} (part : List ℕ) (
   still = take_at (take held block) (part ++ drop (length block - held) (drop held block)) held held_length
 
   -- nothing yet
-  pub read_none : Ready held after out c
-  read_none = record { ran = rw still r.ran; line = rw still r.line; small = r.small; more = omega (arith, read_length, r.more); room = r.room }
+  pub read_none : Ready held after c
+  read_none = record { ran = rw still r.ran; line = rw still r.line; small = r.small; more = omega (arith, read_length, r.more) }
 
   -- the end of the input
   pub read_end : Ran (take held after) c × Line (take held after)
@@ -173,6 +172,6 @@ begun_surely v h = surely v (omega arith)
 pub begun_put : {d after : List ℕ} {w : Result ℕ Refusal} → Writes (accepted heading) w d after → (n : ℕ) → w ≡ Ok n → (put : ℕ) → put ≡ length (take n after) → Reached [] (take put after) [] fresh_stored
 begun_put v n e put k = rw (k ∙ wrote_many v n e, wrote_text v n e) begun
 
-pub ready_first : {block out text : List ℕ} {c : Collector} → c ≡ fresh_stored → Reached [] text [] fresh_stored → limit < length block → enough ≤ length out → Ready 0 block out c
+pub ready_first : {block text : List ℕ} {c : Collector} → c ≡ fresh_stored → Reached [] text [] fresh_stored → limit < length block → Ready 0 block c
 unfolding line_length
-ready_first {text = text} e b m o = record { ran = record { input = []; text = text; reached = rw e b }; line = refl; small = omega arith; more = m; room = o }
+ready_first {text = text} e b m = record { ran = record { input = []; text = text; reached = rw e b }; line = refl; small = omega arith; more = m }

@@ -2,7 +2,7 @@
 use Rattle.std.specs.Prelude.{ℕ, ◌≤◌, ◌<◌, List, ◌++◌, ◌≡◌, length, take, drop}
 use Rattle.collector.specs.declared.Collector.{Collector}
 use Rattle.dump.specs.Input.{Line, output_of}
-use Rattle.stream.specs.Stream.{Reached, enough, limit}
+use Rattle.stream.specs.Stream.{Reached, limit}
 use Rattle.stream.specs.declared.Fed.{Fed}
 
 -- a run comes to this, whatever it has read and written
@@ -23,13 +23,12 @@ pub record Whole (block : List ℕ) (at : ℕ) (left : Collector) : Type 0 where
   pub most : at ≤ length block
   pub line : Line (drop at block)
 
--- Before a read: what is held is an unfinished line and no longer than tells, and there is room.
-pub record Ready (held : ℕ) (block out : List ℕ) (c : Collector) : Type 0 where
+-- Before a read: what is held is an unfinished line and no longer than tells, and there is room behind it.
+pub record Ready (held : ℕ) (block : List ℕ) (c : Collector) : Type 0 where
   pub ran : Ran (take held block) c
   pub line : Line (take held block)
   pub small : held ≤ limit
   pub more : limit < length block
-  pub room : enough ≤ length out
 
 -- At the end: with what is put last, all that was put is the output of all that was read.
 pub record Ended (put : ℕ) (out : List ℕ) : Type 0 where

@@ -7,7 +7,7 @@ ghost use Rattle.collector.specs.Collector.{held};
 ghost use Rattle.collector.specs.Histories.{Typed};
 ghost use Rattle.collector.specs.Stored.{fresh_stored};
 ghost use Rattle.dump.specs.Input.{Line};
-ghost use Rattle.stream.specs.Stream.{Reached, enough, limit};
+ghost use Rattle.stream.specs.Stream.{Reached, limit};
 ghost use Rattle.chandump.specs.Run.{Answered, Ended, Ran, Ready, Whole};
 
 use collector::Collector;
@@ -102,8 +102,7 @@ fn typed(bytes: [u8; Collector::CAPACITY], marks: [u8; Collector::PARTS])
 {}
 
 // The heading is written, before anything is read.
-fn begun(rt: HostRuntime, out: &mut [u8]) -> Result<usize, Fault>
-    requires { enough ≤ length out.old }
+fn begun(rt: HostRuntime, out: &mut [u8; BLOCK]) -> Result<usize, Fault>
     ensures { IfOk result (λ put. Reached [] (take put out.new) [] fresh_stored) }
 {
     let heading = begin(out).unwrap();
@@ -115,9 +114,8 @@ fn some(
     rt: HostRuntime,
     collector: &mut Collector,
     block: &[u8],
-    out: &mut [u8],
+    out: &mut [u8; BLOCK],
 ) -> Result<Fed, Fault>
-    requires { enough ≤ length out.old }
     ensures { IfOk result (λ fed. Answered block.now fed out.new collector.old collector.new) }
 {
     typed(collector.bytes, collector.marks);
@@ -134,9 +132,9 @@ fn all(
     rt: HostRuntime,
     collector: &mut Collector,
     block: &[u8],
-    out: &mut [u8],
+    out: &mut [u8; BLOCK],
 ) -> Result<usize, Fault>
-    requires { Ran block.now collector.old × (enough ≤ length out.old) }
+    requires { Ran block.now collector.old }
     ensures { IfOk result (λ at. Whole block.now at collector.new) }
 {
     let mut at = 0;
@@ -155,10 +153,10 @@ fn answer(
     collector: &mut Collector,
     block: &mut [u8],
     end: usize,
-    out: &mut [u8],
+    out: &mut [u8; BLOCK],
 ) -> Result<usize, Fault>
-    requires { Ran (take end block.old) collector.old × ((end ≤ length block.old) × ((limit < length block.old) × (enough ≤ length out.old))) }
-    ensures { IfOk result (λ held. Ready held block.new out.new collector.new) }
+    requires { Ran (take end block.old) collector.old × ((end ≤ length block.old) × (limit < length block.old)) }
+    ensures { IfOk result (λ held. Ready held block.new collector.new) }
 {
     let at = all(rt, collector, &block[..end], out)?;
     Ok(kept(block, at, end, LINE))
@@ -169,9 +167,9 @@ fn last(
     rt: HostRuntime,
     collector: &mut Collector,
     rest: &[u8],
-    out: &mut [u8],
+    out: &mut [u8; BLOCK],
 ) -> Result<usize, Fault>
-    requires { Ran rest.now collector.old × (Line rest.now × (enough ≤ length out.old)) }
+    requires { Ran rest.now collector.old × Line rest.now }
     ensures { IfOk result (λ put. Ended put out.new) }
 {
     typed(collector.bytes, collector.marks);
@@ -185,10 +183,10 @@ fn once(
     collector: &mut Collector,
     held: usize,
     block: &mut [u8],
-    out: &mut [u8],
+    out: &mut [u8; BLOCK],
 ) -> Result<Option<usize>, Fault>
-    requires { Ready held block.old out.old collector.old }
-    ensures { IfOk result (λ left. IfSome left (λ held. Ready held block.new out.new collector.new)) }
+    requires { Ready held block.old collector.old }
+    ensures { IfOk result (λ left. IfSome left (λ held. Ready held block.new collector.new)) }
 {
     match receive(rt, &mut block[held..])? {
         None => Ok(Some(held)),
@@ -204,9 +202,9 @@ fn run(
     rt: HostRuntime,
     collector: &mut Collector,
     block: &mut [u8],
-    out: &mut [u8],
+    out: &mut [u8; BLOCK],
 ) -> Result<(), Fault>
-    requires { (collector.old ≡ fresh_stored) × ((limit < length block.old) × (enough ≤ length out.old)) }
+    requires { (collector.old ≡ fresh_stored) × (limit < length block.old) }
 {
     begun(rt, out)?;
     let mut held = 0;

@@ -1,16 +1,13 @@
-use mathlib.Core.Path.{sym}
+use native.Mathlib.Omega.{arith}
 use Rattle.std.proofs.lemmas.Result.{IfOk-weaker}
-use Rattle.chandump.proofs.Laws.{begun_put, begun_surely, wrote_many, wrote_within}
+use Rattle.chandump.proofs.Laws.{begun_put, begun_surely, wrote_within}
 use Rattle.chandump.proofs.begun.Goals as goal
 
 pub unwrap-heading-requires : goal.unwrap-heading-requires
-unwrap-heading-requires c = begun_surely c.begin.ensures c.requires
+unwrap-heading-requires c = begun_surely c.begin.ensures (omega arith)
 
-pub slice_bounds-written-end : goal.slice_bounds-written-end
-slice_bounds-written-end c = wrote_within c.begin.ensures c.unwrap-heading.result c.unwrap-heading.ensures
-
-pub slice_bounds-written-end-2 : goal.slice_bounds-written-end-2
-slice_bounds-written-end-2 c = sym (wrote_many c.begin.ensures c.unwrap-heading.result c.unwrap-heading.ensures)
+pub shared_ref_as_front-written : goal.shared_ref_as_front-written
+shared_ref_as_front-written c = let w = wrote_within c.begin.ensures c.unwrap-heading.result c.unwrap-heading.ensures in omega arith
 
 pub returns : goal.returns
 returns c = IfOk-weaker c.written.result _ _ (begun_put c.begin.ensures c.unwrap-heading.result c.unwrap-heading.ensures) c.written.ensures

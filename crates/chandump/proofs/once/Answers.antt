@@ -9,4 +9,4 @@ answer-requires c =
     let l = c.receive.auto.block in
     let w = rw c.in-Some.is at c.in_ok-receive.ensures in
     let e = read_length b c.requires l in
-    (read_some b c.requires l n w, (omega (arith, e, read_within b c.requires l n w), (omega (arith, e, c.requires.more), c.requires.room)))
+    (read_some b c.requires l n w, (omega (arith, e, read_within b c.requires l n w), omega (arith, e, c.requires.more)))
