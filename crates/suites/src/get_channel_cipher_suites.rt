@@ -1,5 +1,6 @@
 // Get Channel Cipher Suites, App 54h: IPMI 2.0, Table 22-17; the Rust's get_channel_cipher_suites.rs.
-ghost use Rattle.std.specs.Prelude.{◌≡◌, length, take, false};
+ghost use Rattle.std.specs.Prelude.{◌-◌, ◌≡◌, length, take, false};
+ghost use Rattle.std.specs.Iterator.{at_most};
 ghost use Rattle.suites.specs.GetChannelCipherSuites.{Typed, authentication_of, command_bytes, command_for, command_of, command_on, confidentiality_of, integrity_of, moved, nothing, numbers_of, part_of, row_of, step_at, step_number, step_of, suite_for, suite_of, suites_bytes};
 ghost use Rattle.base.specs.Outcome.{accepted};
 ghost use Rattle.base.specs.Part.{Part};
@@ -353,6 +354,8 @@ impl<'a> Iterator for Iter<'a> {
     type Item = CipherSuite;
 
     ghost next_gives = { λ before result after. (result ≡ (step_of before).answer) × (after ≡ moved before (step_of before)) };
+
+    ghost remaining = { λ reader. at_most (length reader.list.now - reader.position) };
 
     fn next(&mut self) -> Option<CipherSuite> {
         let step = step_at(self.list, self.position, self.failed);
