@@ -6,7 +6,7 @@ use native.Mathlib.Omega.{arith}
 use borrow.Author.Tests.{ltb-false}
 use borrow.Rule.Slice.PartMut.{mid_of, put_mid}
 use lib.ListN.{length, take, drop, length-append, length-take, length-drop}
-use lib.Seq.{drop-drop, length-take-le, take_all, take-append-add, take-append-le, take-append_seam, take_at, take-nil}
+use lib.Seq.{length-take-le, take-append-add, take-append-le, take-append_seam, take_at, take-nil}
 use Rattle.std.specs.Prelude.{Result, Ok, IsOk}
 use Rattle.base.specs.Outcome.{accepted}
 use Rattle.base.specs.Written.{Writes}
@@ -52,28 +52,6 @@ module _ {c left : Collector} (block d : List ℕ) {after : List ℕ} {r : Fed} 
 pub record Stands (block : List ℕ) (at : ℕ) (c : Collector) : Type 0 where
   pub ran : Ran (drop at block) c
   pub most : at ≤ length block
-
-pub stands_first : (block : List ℕ) (c : Collector) → Ran block c → Stands block 0 c
-stands_first block c r = record { ran = r; most = omega arith }
-
-rest_part : (at : ℕ) (block : List ℕ) → take (length block - at) (drop at block) ≡ drop at block
-rest_part at block = take_all (length block - at) (drop at block) (omega (arith, length-drop at block))
-
-module _ {block after : List ℕ} {at : ℕ} {r : Fed} {c left : Collector} (s : Stands block at c) (a : Answered (take (length block - at) (drop at block)) r after c left) where
-  of_rest : Answered (drop at block) r after c left
-  of_rest = rw (rest_part at block) at a
-
-  pub stands_within : at + r.taken ≤ length block
-  stands_within = omega (arith, s.most, of_rest.most, length-drop at block)
-
-  ran_on : Ran (drop r.taken (drop at block)) left
-  ran_on = let t = s.ran in record { input = t.input; text = t.text ++ take r.put after; reached = of_rest.grows t.reached }
-
-  pub stands_next : Stands block (at + r.taken) left
-  stands_next = record { ran = rw (drop-drop r.taken at block) at ran_on; most = stands_within }
-
-  pub stands_last : r.taken ≡ 0 → Whole block at left
-  stands_last e = record { ran = rw e at ran_on; most = s.most; line = of_rest.none e }
 
 -- What a writer put.
 
@@ -143,14 +121,6 @@ module _ {held : ℕ} {block : List ℕ} {c : Collector} (part : List ℕ) (r : 
 
   still : take held after ≡ take held block
   still = take_at (take held block) (part ++ drop (length block - held) (drop held block)) held held_length
-
-  -- nothing yet
-  pub read_none : Ready held after c
-  read_none = record { ran = rw still r.ran; line = rw still r.line; small = r.small; more = omega (arith, read_length, r.more) }
-
-  -- the end of the input
-  pub read_end : Ran (take held after) c × Line (take held after)
-  read_end = rw still (r.ran, r.line)
 
   -- so many bytes
   pub read_within : (n : ℕ) → n ≤ length (mid_of held (length block - held) block) → held + n ≤ length block

@@ -277,17 +277,9 @@ went_far {c} {left} {block = block} {d} {mid} {t = t} w s =
     let a : fitting (length d) c (ended_lines block) ≡ w.lines = w.all ∙ rw n (append-nil w.lines) in
     rw (a, s.1, s.2, put_same t.put (length mid - t.put) mid) w.feeds
 
--- what the loop asks
-pub went_within : {c left : Collector} {block d after : List ℕ} {t : Fed} → Went c block t d after left → (t.put ≤ length after) × (length after ≡ length d)
-went_within w = let l = feeds_length w.feeds w.room in (omega (arith, w.room), l)
-
 -- The last line.
 
 pub finish_none : (c : Collector) (rest d : List ℕ) → length rest ≡ 0 → Replies c (last_line rest) (Ok 0) d d c
 unfolding answers_from collector_from
 finish_none c [] d e = let l : 0 ≤ length d = omega arith in record { writes = writing [] d l; leaves = rw (le-ltb (length d) 0 l) }
 finish_none c (x ∷ rest) d e = absurd (omega arith)
-
-pub finish_some : {c left : Collector} {d after : List ℕ} {r : Result ℕ Refusal} (last : List ℕ) → (length last ≡ 0 → ⊥) → Replies c (last ∷ []) r d after left → Replies c (last_line last) r d after left
-finish_some [] n w = absurd (n refl)
-finish_some (x ∷ last) n w = w
