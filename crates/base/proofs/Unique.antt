@@ -6,6 +6,8 @@ use Prim.Native.Nat.{ℕ, zero, suc}
 use contract.Lifetimes.{Lfts}
 use borrow.Fn.Kinds.{ParamKind, ResultKind, In, Out, Dens, res_t, ended_of}
 use denote.Ref.{Bor}
+use mir.Syntax.{Width, w64}
+use mir.Val.{Fits}
 use denote.Triple.Clauses.{Lasts, at_exit}
 use Rattle.base.specs.Outcome.{Outcome}
 use Rattle.std.specs.Prelude.{Result}
@@ -29,6 +31,11 @@ UniquePart {n} ps r Asked Learnt part =
     → (z z' : (res_t r κs).Denot) (w w' : Lasts (ended_of n ps r) κs a)
     → Learnt κs a z (at_exit (ended_of n ps r) κs a w) → Learnt κs a z' (at_exit (ended_of n ps r) κs a w')
     → (((part κs z).ref_ptr ≡ (part κs z').ref_ptr) × ((part κs z).now ≡ (part κs z').now)) × (w ≡ w')
+
+-- the same of a function that is generic over a number of so many bits: at each
+abbrev pub UniqueEach : {n : ℕ} (w : Width) (ps : (k : ℕ) → Fits w k → List (ParamKind n)) (r : (k : ℕ) → Fits w k → ResultKind n)
+    → ((k : ℕ) (f : Fits w k) → In n (ps k f)) → ((k : ℕ) (f : Fits w k) → Out n (ps k f) (r k f)) → Type 0
+UniqueEach w ps r Asked Learnt = (k : ℕ) (f : Fits w k) → Unique (ps k f) (r k f) (Asked k f) (Learnt k f)
 
 pub both {ℓ} : {A : Type ℓ} {x y z : A} → x ≡ z → y ≡ z → x ≡ y
 both e f = e ∙ sym f
@@ -62,6 +69,9 @@ flags_unique κs a ok z z' w w' q q' = (both q q', refl)
 
 pub number_unique : Unique p.little.number.Kinds.ps p.little.number.Kinds.r p.little.number.Reads.Asked p.little.number.Reads.Learnt
 number_unique κs a ok z z' w w' q q' = (both q q', refl)
+
+pub bytes_unique : UniqueEach w64 p.little.bytes.Kinds.ps p.little.bytes.Kinds.r p.little.bytes.Reads.Asked p.little.bytes.Reads.Learnt
+bytes_unique width f κs a ok z z' w w' q q' = (both q q', refl)
 
 pub refusal_number_unique : Unique p.refusal.Refusal.number.Kinds.ps p.refusal.Refusal.number.Kinds.r p.refusal.Refusal.number.Reads.Asked p.refusal.Refusal.number.Reads.Learnt
 refusal_number_unique κs a ok z z' w w' q q' = (both q q', refl)

@@ -5,13 +5,9 @@ use mathlib.Core.Path.{refl, ap}
 use borrow.Fn.Kinds.{ParamKind, ResultKind, In, Out}
 use mir.Syntax.{w8}
 use mir.Val.{Fits}
-use Rattle.base.proofs.Unique.{Unique, UniquePart, both, writer}
+use Rattle.base.proofs.Unique.{UniqueEach, Unique, UniquePart, both, writer}
 use Rattle.base.proofs.Said.{said_one}
 use Rattle.suites.proofs as p
-
--- the same of a function that is generic over a byte: at each
-abbrev pub UniqueEach : {n : ℕ} (ps : (k : ℕ) → Fits w8 k → List (ParamKind n)) (r : (k : ℕ) → Fits w8 k → ResultKind n) → ((k : ℕ) (f : Fits w8 k) → In n (ps k f)) → ((k : ℕ) (f : Fits w8 k) → Out n (ps k f) (r k f)) → Type 0
-UniqueEach ps r Asked Learnt = (k : ℕ) (f : Fits w8 k) → Unique (ps k f) (r k f) (Asked k f) (Learnt k f)
 
 pub cipher_suite_id_unique : Unique p.get_channel_cipher_suites.CipherSuite.id.Kinds.ps p.get_channel_cipher_suites.CipherSuite.id.Kinds.r p.get_channel_cipher_suites.CipherSuite.id.Reads.Asked p.get_channel_cipher_suites.CipherSuite.id.Reads.Learnt
 cipher_suite_id_unique κs a ok z z' w w' q q' = (both q q', refl)
@@ -34,16 +30,16 @@ cipher_suite_integrity_unique κs a ok z z' w w' q q' = (both q q', refl)
 pub cipher_suite_confidentiality_unique : Unique p.get_channel_cipher_suites.CipherSuite.confidentiality.Kinds.ps p.get_channel_cipher_suites.CipherSuite.confidentiality.Kinds.r p.get_channel_cipher_suites.CipherSuite.confidentiality.Reads.Asked p.get_channel_cipher_suites.CipherSuite.confidentiality.Reads.Learnt
 cipher_suite_confidentiality_unique κs a ok z z' w w' q q' = (both q q', refl)
 
-pub list_command_new_unique : UniqueEach p.get_channel_cipher_suites.ListCommand.new.Kinds.ps p.get_channel_cipher_suites.ListCommand.new.Kinds.r p.get_channel_cipher_suites.ListCommand.new.Reads.Asked p.get_channel_cipher_suites.ListCommand.new.Reads.Learnt
+pub list_command_new_unique : UniqueEach w8 p.get_channel_cipher_suites.ListCommand.new.Kinds.ps p.get_channel_cipher_suites.ListCommand.new.Kinds.r p.get_channel_cipher_suites.ListCommand.new.Reads.Asked p.get_channel_cipher_suites.ListCommand.new.Reads.Learnt
 list_command_new_unique bit f κs a ok z z' w w' q q' = (said_one z z' (both q q'), refl)
 
-pub list_command_numbered_unique : UniqueEach p.get_channel_cipher_suites.ListCommand.numbered.Kinds.ps p.get_channel_cipher_suites.ListCommand.numbered.Kinds.r p.get_channel_cipher_suites.ListCommand.numbered.Reads.Asked p.get_channel_cipher_suites.ListCommand.numbered.Reads.Learnt
+pub list_command_numbered_unique : UniqueEach w8 p.get_channel_cipher_suites.ListCommand.numbered.Kinds.ps p.get_channel_cipher_suites.ListCommand.numbered.Kinds.r p.get_channel_cipher_suites.ListCommand.numbered.Reads.Asked p.get_channel_cipher_suites.ListCommand.numbered.Reads.Learnt
 list_command_numbered_unique bit f κs a ok z z' w w' q q' = (said_one z z' (both q q'), refl)
 
-pub list_command_write_unique : UniqueEach p.get_channel_cipher_suites.ListCommand.write.Kinds.ps p.get_channel_cipher_suites.ListCommand.write.Kinds.r p.get_channel_cipher_suites.ListCommand.write.Reads.Asked p.get_channel_cipher_suites.ListCommand.write.Reads.Learnt
+pub list_command_write_unique : UniqueEach w8 p.get_channel_cipher_suites.ListCommand.write.Kinds.ps p.get_channel_cipher_suites.ListCommand.write.Kinds.r p.get_channel_cipher_suites.ListCommand.write.Reads.Asked p.get_channel_cipher_suites.ListCommand.write.Reads.Learnt
 list_command_write_unique bit f κs a ok z z' w w' q q' = writer 1 q q'
 
-pub list_command_read_unique : UniqueEach p.get_channel_cipher_suites.ListCommand.read.Kinds.ps p.get_channel_cipher_suites.ListCommand.read.Kinds.r p.get_channel_cipher_suites.ListCommand.read.Reads.Asked p.get_channel_cipher_suites.ListCommand.read.Reads.Learnt
+pub list_command_read_unique : UniqueEach w8 p.get_channel_cipher_suites.ListCommand.read.Kinds.ps p.get_channel_cipher_suites.ListCommand.read.Kinds.r p.get_channel_cipher_suites.ListCommand.read.Reads.Asked p.get_channel_cipher_suites.ListCommand.read.Reads.Learnt
 list_command_read_unique bit f κs a ok z z' w w' q q' = (said_one z z' (both q q'), refl)
 
 pub channel_cipher_suites_parse_unique : Unique p.get_channel_cipher_suites.ChannelCipherSuites.parse.Kinds.ps p.get_channel_cipher_suites.ChannelCipherSuites.parse.Kinds.r p.get_channel_cipher_suites.ChannelCipherSuites.parse.Reads.Asked p.get_channel_cipher_suites.ChannelCipherSuites.parse.Reads.Learnt
