@@ -93,6 +93,7 @@ def named(of, trait, arguments):
 def functions(text):
     """The functions of a source, in its order. Those of a trait's impl are as public as the trait, and what the impl gives for the
     trait's promise is theirs."""
+    private = re.findall(r"^(?:pub\(crate\) )?trait (\w+)", text, re.M)
     head = r"^impl(?:<[^>]*>)? (?:([\w:]+?)(?:<([^>]*)>)? for )?(\w+)[^{\n]*\{"
     kinds = [(named(m.group(3), (m.group(1) or "").split("::")[-1], m.group(2)), m.end() - 1, closing(text, m.end() - 1), m.group(1)) for m in re.finditer(head, text, re.M)]
     for m in re.finditer(r"^ *(pub(?:\(crate\))? )?(?:extern \"C\" )?fn (\w+)", text, re.M):
@@ -107,7 +108,7 @@ def functions(text):
             i = closing(text, k.end() - 1)
             clauses.append((k.group(1), re.sub(r"\s+", " ", text[k.end():i - 1]).strip()))
         name = kind + "." + m.group(2) if kind else m.group(2)
-        yield Function(m.group(1) == "pub " or bool(trait), name, clauses, m.start(), k.end() - 1, closing(text, k.end() - 1))
+        yield Function(m.group(1) == "pub " or bool(trait) and trait not in private, name, clauses, m.start(), k.end() - 1, closing(text, k.end() - 1))
 
 
 def module_of(file):
