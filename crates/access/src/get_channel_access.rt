@@ -18,6 +18,7 @@ pub enum ChannelAccessType {
 }
 
 impl ChannelAccessType {
+    // What stands for it in a request; the type has no number.
     pub fn byte(self) -> u8
         ensures { result ≡ type_byte self }
     {
@@ -190,6 +191,7 @@ impl ChannelAccessMode {
         }
     }
 
+    // A writer and no Display: C lends the memory, which has all of the text or none of it.
     pub fn text(self, out: &mut [u8]) -> Result<usize, Refusal>
         ensures { Writes (accepted (mode_text self)) result out.old out.new }
     {
@@ -257,6 +259,7 @@ impl ChannelPrivilegeLevel {
         }
     }
 
+    // A writer and no Display: C lends the memory, which has all of the text or none of it.
     pub fn text(self, out: &mut [u8]) -> Result<usize, Refusal>
         ensures { Writes (accepted (limit_text self)) result out.old out.new }
     {

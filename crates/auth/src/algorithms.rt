@@ -1,4 +1,4 @@
-// The three algorithms of a suite: the Rust's auth/algorithms.rs.
+// The three algorithms of a suite: the Rust's auth/algorithms.rs. Each type has a table of its own, so nothing is generic.
 ghost use Rattle.std.specs.Prelude.{◌≡◌, ok_or};
 ghost use Rattle.auth.specs.Algorithms.{authentication_of, authentication_value, confidentiality_of, confidentiality_value, integrity_of, integrity_value};
 

@@ -37,6 +37,7 @@ impl AuthType {
         }
     }
 
+    // A writer and no Display: C lends the memory, which has all of the name or none of it.
     pub fn name(self, out: &mut [u8]) -> Result<usize, Refusal>
         ensures { Writes (accepted (auth_type_name self)) result out.old out.new }
     {
@@ -48,7 +49,7 @@ impl AuthType {
         }
     }
 
-    // Weakest first.
+    // Weakest first: neither the order of the numbers nor that of the names, so no derive has it.
     fn rank(self) -> u8
         ensures { result ≡ rank self }
     {

@@ -39,7 +39,7 @@ impl ChannelNumber {
         self.0
     }
 
-    // Rust's {:01X}: one digit, or two where the number holds more.
+    // Rust's {:01X}: one digit, or two where the number holds more. No Display, as `Channel::text`.
     fn text(self, out: &mut [u8]) -> Result<usize, Refusal>
         ensures { Writes (accepted (channel_text (Channel.Numbered self))) result out.old out.new }
     {
@@ -98,6 +98,7 @@ impl Channel {
         }
     }
 
+    // A writer and no Display: C lends the memory, which has all of the text or none of it.
     pub fn text(self, out: &mut [u8]) -> Result<usize, Refusal>
         ensures { Writes (accepted (channel_text self)) result out.old out.new }
     {

@@ -17,7 +17,8 @@ use suites::collected::collected_suites_in;
 
 const CURRENT: u8 = 0xE;
 
-// `channel` is the number that it was made for; `from` is one more than the number that its answers have, 0 while none is taken.
+// `channel` is the number that it was made for; `from` is one more than the number that its answers have, 0 while none is taken:
+// a number, since C declares the struct.
 #[repr(C)]
 #[derive(Drop)]
 pub struct ChannelCollector {
@@ -26,6 +27,7 @@ pub struct ChannelCollector {
     pub collector: Collector,
 }
 
+// No Result alone: a refused collector is given back as it came.
 #[derive(Drop)]
 pub struct ChannelAnswered {
     pub verdict: Result<(), Refusal>,

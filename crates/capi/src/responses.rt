@@ -1,4 +1,5 @@
-// The readers of responses: each writes the record's fields at the start of out.
+// The readers of responses: each writes the record's fields at the start of out. By `match`: of `and_then` no clause says what a
+// closure that is not called leaves of out.
 ghost use Rattle.capi.specs.Number.{Codes};
 ghost use Rattle.capi.specs.Records.{access_record, activation_record, by_suite_record, capabilities_record, challenge_record, info_record, suites_record};
 

@@ -138,6 +138,7 @@ fn all(
     ensures { IfOk result (λ at. Whole block.now at collector.new) }
 {
     let mut at = 0;
+    // A turn tells only behind its answers that no line was left.
     loop {
         let fed = some(rt, collector, &block[at..], out)?;
         if fed.taken == 0 {

@@ -20,7 +20,7 @@ mod tested;
 
 // The parts that were heard stand at their places among the bytes, zeros elsewhere. A part's mark is 0 where it was
 // not heard, and one more than its length where it was. Known is what a search would find: the lowest unheard index, PARTS
-// where there is none, then 1 where the list is complete.
+// where there is none, then 1 where the list is complete. All are numbers, since C declares the struct and lends each array by itself.
 #[repr(C)]
 #[derive(Clone, Copy)]
 pub struct Collector {
@@ -29,6 +29,7 @@ pub struct Collector {
     pub known: [u8; Collector::KNOWN],
 }
 
+// No Result alone: a refused collector is given back as it came.
 #[derive(Drop)]
 pub struct Answered {
     pub verdict: Result<(), Refusal>,

@@ -49,7 +49,7 @@ pub enum Kind {
     Refused,
 }
 
-// The answer to a line: its kind, and what became of its text.
+// The answer to a line: its kind, and what became of its text. The kind is told also where the text has no room.
 #[derive(Drop)]
 pub struct Answered {
     pub kind: Kind,
@@ -96,6 +96,8 @@ fn refused(refusal: Refusal, out: &mut [u8]) -> Answered
         written: refused_text(refusal.number(), out),
     }
 }
+
+// Three functions, each of them its reader and its text: one generic would only pass the two on.
 
 fn info(response: &[u8], out: &mut [u8]) -> Answered
     ensures { Says (shown Kind.Info info_text (info_of response.now)) result out.old out.new }

@@ -1,4 +1,5 @@
 // The types of the Rust's get_channel_info.rs: IPMI 2.0, Tables 6-2, 6-3 and 22-29. `text` is its Display.
+// Each has a table of its own, so nothing is generic.
 ghost use Rattle.std.specs.Prelude.{◌≡◌};
 ghost use Rattle.media.specs.Media.{medium_field, medium_of, medium_text, medium_value, protocol_field, protocol_of, protocol_text, protocol_value, session_field, session_of, session_text, session_value};
 ghost use Rattle.base.specs.Outcome.{accepted};
@@ -90,6 +91,7 @@ impl ChannelMediumType {
         }
     }
 
+    // A writer and no Display: C lends the memory, which has all of the text or none of it.
     pub fn text(self, out: &mut [u8]) -> Result<usize, Refusal>
         ensures { Writes (accepted (medium_text self)) result out.old out.new }
     {
@@ -185,6 +187,7 @@ impl ChannelProtocolType {
         }
     }
 
+    // A writer and no Display: C lends the memory, which has all of the text or none of it.
     pub fn text(self, out: &mut [u8]) -> Result<usize, Refusal>
         ensures { Writes (accepted (protocol_text self)) result out.old out.new }
     {
@@ -253,6 +256,7 @@ impl ChannelSessionSupport {
         }
     }
 
+    // A writer and no Display: C lends the memory, which has all of the text or none of it.
     pub fn text(self, out: &mut [u8]) -> Result<usize, Refusal>
         ensures { Writes (accepted (session_text self)) result out.old out.new }
     {

@@ -79,7 +79,7 @@ impl<const BIT: u8> ListCommand<BIT> {
     }
 }
 
-// A part of the list: `data_length` bytes, and zeros behind them.
+// A part of the list: `data_length` bytes, and zeros behind them. The Rust's record, which needs no heap.
 #[derive(Drop)]
 pub struct ChannelCipherSuites {
     pub data_length: usize,
@@ -249,7 +249,7 @@ const ALGORITHMS: usize = 3;
 // A whole record: its first byte, its number, its algorithms.
 const RECORD: usize = 2 + ALGORITHMS;
 
-// What a step of the reading gives, and where and how it leaves the reading.
+// What a step of the reading gives, and where and how it leaves the reading: C holds the place and the flag between two steps.
 #[derive(Drop)]
 pub struct Step {
     pub answer: Option<CipherSuite>,
@@ -303,7 +303,7 @@ pub fn step_at(list: &[u8], position: usize, failed: bool) -> Step
     step_number(list, position + 1)
 }
 
-// How many suites the list has.
+// How many suites the list has. By places, as they are copied below: `Iter` gives suites, and not where they stand.
 fn count(list: &[u8]) -> usize
     ensures { result ≡ length (numbers_of list.now) }
 {

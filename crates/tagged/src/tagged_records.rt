@@ -217,7 +217,8 @@ fn entry_at(list: &[u8], at: usize) -> [u8; ENTRY]
     [list[at + 1], 1, list[at + 2], list[at + 3], list[at + 4]]
 }
 
-// The first bytes of each record's entry, one behind the other. They are counted before one is written.
+// The first bytes of each record's entry, one behind the other. They are counted before one is written; a record begins where
+// the one before it ends.
 fn listed<const WIDTH: usize>(list: &[u8], out: &mut [u8]) -> Result<usize, Refusal>
     requires { (0 < WIDTH) × (WIDTH ≤ entry_length) }
     ensures { Writes (entries_of WIDTH list.now) result out.old out.new }
