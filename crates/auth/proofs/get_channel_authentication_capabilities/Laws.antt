@@ -4,7 +4,7 @@ use mathlib.Core.Path.{refl, ap, ◌∙◌}
 use native.Mathlib.Omega.{arith}
 use borrow.Author.Tests.{ltb-false, le-ltb}
 use Rattle.auth.specs.Auth.{privileges, privilege_value}
-use Rattle.auth.specs.GetChannelAuthenticationCapabilities.{Typed, asked_channel, asked_level, best_auth, capabilities_bytes, capabilities_of, command, command_bytes, command_of, extended, extended_of, plain}
+use Rattle.auth.specs.GetChannelAuthenticationCapabilities.{Typed, asked_channel, asked_level, best_auth, capabilities_bytes, capabilities_of, command, command_bytes, command_of, extended_of}
 use Rattle.auth.specs.declared.AuthType.TheVariants as Kind
 use Rattle.auth.specs.declared.PrivilegeLevel.{PrivilegeLevel}
 use Rattle.auth.specs.declared.get_channel_authentication_capabilities.ChannelAuthenticationCapabilities.{ChannelAuthenticationCapabilities}
@@ -56,12 +56,37 @@ command_no_form k = no_channel_form k.channel_number (λ n. (0x80 + n) ∷ privi
 
 -- The response.
 
--- the two forms that are read
-pub is_plain : (s : List ℕ) → 7 ≤ length s → flag 7 (byte 1 s) ≡ false → capabilities_of s ≡ accepted (plain s)
-is_plain s h x = rw (le-ltb (length s) 7 h, x)
+-- bytes 0 to 2, and what stands elsewhere by bit 7 of byte 1; "bit 4 set means per-message authentication is NOT enabled, bit 3 the same for user level"
+abbrev pub capabilities_from : ℕ → ℕ → ℕ → Bool → Bool → Bool → List ℕ → ℕ → ChannelAuthenticationCapabilities
+capabilities_from channel types status kg v2 v15 id auxiliary =
+    record {
+      channel_number = channel;
+      oem_proprietary = flag 5 types;
+      key = flag 4 types;
+      md5 = flag 2 types;
+      md2 = flag 1 types;
+      none = flag 0 types;
+      kg_status = kg;
+      per_message_authentication_enabled = not (flag 4 status);
+      user_level_authentication_enabled = not (flag 3 status);
+      non_null_usernames_enabled = flag 2 status;
+      null_usernames_enabled = flag 1 status;
+      anonymous_login_enabled = flag 0 status;
+      ipmi2_connections_supported = v2;
+      ipmi15_connections_supported = v15;
+      oem_id = id;
+      oem_auxiliary_data = auxiliary;
+    }
 
-pub is_extended : (s : List ℕ) → 8 ≤ length s → extended_of s ≡ accepted (extended s)
-is_extended s h = rw (le-ltb (length s) 8 h)
+-- the two forms that are read: the places of each are said here by themselves, beside the definitions
+module _ (s : List ℕ) (c : ChannelAuthenticationCapabilities) (id : List ℕ) where
+  pub is_plain : 7 ≤ length s → flag 7 (byte 1 s) ≡ false
+      → c ≡ capabilities_from (byte 0 s) (byte 1 s) (byte 2 s) false false false id (byte 6 s) → id ≡ byte 3 s ∷ byte 4 s ∷ byte 5 s ∷ [] → capabilities_of s ≡ accepted c
+  is_plain h x e i = rw (le-ltb (length s) 7 h, x, e, i)
+
+  pub is_extended : (kg v2 v15 : Bool) → 8 ≤ length s → kg ≡ flag 5 (byte 2 s) → v2 ≡ flag 1 (byte 3 s) → v15 ≡ flag 0 (byte 3 s)
+      → c ≡ capabilities_from (byte 0 s) (byte 1 s) (byte 2 s) kg v2 v15 id (byte 7 s) → id ≡ byte 4 s ∷ byte 5 s ∷ byte 6 s ∷ [] → extended_of s ≡ accepted c
+  is_extended kg v2 v15 h k f g e i = rw (le-ltb (length s) 8 h, e, k, f, g, i)
 
 twice : (b : Bool) → not (not b) ≡ b
 twice true = refl
