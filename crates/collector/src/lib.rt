@@ -2,7 +2,8 @@
 // what takes a collector by value or lent is thin over them.
 #![tactic(auto)]
 
-ghost use Rattle.std.specs.Prelude.{◌*◌, ◌≤◌, ◌≡◌, length, get_or};
+ghost use Rattle.std.specs.Prelude.{◌+◌, ◌*◌, ◌≤◌, ◌≡◌, length, get_or};
+ghost use Rattle.std.proofs.Math.Seq.{paste};
 ghost use Rattle.base.specs.Refusal.{said};
 ghost use Rattle.base.specs.Verdict.{Gives};
 ghost use Rattle.base.specs.Written.{Writes};
@@ -50,6 +51,16 @@ pub(crate) fn start(index: u8) -> usize
     Collector::PART * index as usize
 }
 
+// Byte by byte, as `place` does.
+fn put(bytes: &mut [u8], at: usize, part: &[u8])
+    requires { at + length part.now ≤ length bytes.old }
+    ensures { bytes.new ≡ paste bytes.old at part.now (length part.now) }
+{
+    for i in 0..part.len() {
+        bytes[at + i] = part[i];
+    }
+}
+
 // A part that is new, and what a search would find now.
 fn store(
     bytes: &mut [u8; Collector::CAPACITY],
@@ -62,8 +73,7 @@ fn store(
     ensures { collector_of bytes.new marks.new known.new ≡ knowing (put (held bytes.old marks.old) index response.now) }
 {
     marks[index as usize] = (response.len() + 1) as u8;
-    let at = start(index);
-    bytes[at..at + response.len()].copy_from_slice(response);
+    put(bytes, start(index), response);
     let low = unheard_from(marks, known[0]);
     known[0] = low;
     known[1] = ended(marks, low) as u8;
@@ -111,13 +121,14 @@ pub fn list_in(
     }
 }
 
-// A lent collector takes an answer by the step by value.
+// A lent collector takes an answer by the step by value. A refused one is not copied back.
 pub fn answer_lent(collector: &mut Collector, index: u8, response: &[u8]) -> Result<(), Refusal>
     ensures { Gives (taking_stored collector.old index response.now) collector.old result collector.new }
 {
     let answered = Collector::answer(*collector, index, response);
+    answered.verdict?;
     *collector = answered.collector;
-    answered.verdict
+    Ok(())
 }
 
 impl Collector {
@@ -142,19 +153,25 @@ impl Collector {
     }
 
     // A refused one is given back as it came.
-    pub fn answer(mut self, index: u8, response: &[u8]) -> Answered
+    pub fn answer(self, index: u8, response: &[u8]) -> Answered
         ensures { Gives (taking_stored self index response.now) self result.verdict result.collector }
     {
-        let verdict = answer_in(
-            &mut self.bytes,
-            &mut self.marks,
-            &mut self.known,
+        let mut collector = self;
+        match answer_in(
+            &mut collector.bytes,
+            &mut collector.marks,
+            &mut collector.known,
             index,
             response,
-        );
-        Answered {
-            verdict,
-            collector: self,
+        ) {
+            Ok(()) => Answered {
+                verdict: Ok(()),
+                collector,
+            },
+            Err(refusal) => Answered {
+                verdict: Err(refusal),
+                collector: self,
+            },
         }
     }
 

@@ -1,17 +1,17 @@
 -- Laws of writing to the start of a lent buffer.
 use mathlib.Core.Path.{◌≡◌, refl, ◌∙◌}
 use mathlib.Core.List.{List, ◌++◌, append-nil, append_assoc}
-use Prim.Native.Nat.{ℕ, ◌+◌, ◌-◌, ◌<◌, ◌≤◌}
+use Prim.Native.Nat.{ℕ, zero, suc, ◌+◌, ◌-◌, ◌<◌, ◌≤◌}
 use native.Mathlib.Numerals.{add-one}
 use native.Mathlib.Nat.{zero-add}
 use native.Mathlib.Omega.{arith}
 use borrow.Author.Tests.{lt-ltb, le-ltb}
 use borrow.Rule.Slice.PartMut.{put_mid}
-use lib.ListN.{length, get_or, drop, set, length-append, drop_of_length-le}
+use lib.ListN.{length, get_or, drop, set, replicate, length-replicate, length-append, drop_of_length-le}
 use lib.Seq.{paste, paste-suc, take-length, drop-append_seam, take-append_seam, drop-drop}
 use Rattle.base.specs.Outcome.{Outcome, accepted}
 use Rattle.base.specs.Refusal.{refusal}
-use Rattle.base.specs.Written.{Writes, written, length_of, over}
+use Rattle.base.specs.Written.{Writes, written, length_of, over, padded}
 use Rattle.base.specs.declared.refusal.Refusal.{Refusal}
 use Rattle.base.specs.declared.refusal.Refusal.TheVariants.{NoRoom}
 use Rattle.std.specs.Prelude.{Result, Ok, Err}
@@ -49,6 +49,15 @@ filled {message} {buffer} w h =
     let l : length message ≤ length buffer = omega arith in
     let g : length buffer ≤ length message = omega arith in
     placed w l ∙ rw (drop_of_length-le buffer g, append-nil)
+
+drop_zeros : (k n : ℕ) → drop {A = ℕ} k (replicate n 0) ≡ replicate (n - k) 0
+drop_zeros zero n = let z : n - 0 ≡ n = omega arith in rw z
+drop_zeros (suc k) zero = let z : 0 - suc k ≡ 0 = omega arith in rw z
+drop_zeros (suc k) (suc n) = let z : suc n - suc k ≡ n - k = omega arith in rw z (drop_zeros k n)
+
+-- zeros that a message was written over
+pub padding : (width : ℕ) {message after : List ℕ} {r : Result ℕ Refusal} → length message ≤ width → Writes (accepted message) r (replicate width 0) after → after ≡ padded width message
+padding width {message} h w = placed w (rw (length-replicate {A = ℕ} width 0) h) ∙ rw (drop_zeros (length message) width)
 
 -- two parts: the second is copied behind the first
 pub joined : (first second d : List ℕ) → put_mid (length first) (length first + length second - length first) (first ++ drop (length first) d) second ≡ (first ++ second) ++ drop (length (first ++ second)) d

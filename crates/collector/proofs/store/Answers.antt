@@ -1,6 +1,5 @@
 use mathlib.Core.Path.{refl}
 use native.Mathlib.Omega.{arith}
-use Rattle.std.proofs.lemmas.Slice.{put_mid-paste}
 use Rattle.collector.proofs.Stored.{heard_still, stored_as}
 use Rattle.collector.proofs.Complete.{lowest_le}
 use Rattle.collector.proofs.store.Goals as goal
@@ -13,4 +12,4 @@ unheard_from-low-requires c =
 pub returns : goal.returns
 returns c =
     let a = c.args in
-    stored_as a.bytes.now a.marks.now a.known.now a.index a.response.now c.told-known c.start-at.result c.start-at.ensures _ _ _ (put_mid-paste _ _ _ _ _ _ c.copy_from_slice.ensures.after (omega arith) refl) refl c.unheard_from-low.result c.unheard_from-low.ensures c.ended.result c.ended.ensures refl
+    stored_as a.bytes.now a.marks.now a.known.now a.index a.response.now c.told-known c.start.result c.start.ensures _ _ _ c.put.ensures refl c.unheard_from-low.result c.unheard_from-low.ensures c.ended.result c.ended.ensures refl
