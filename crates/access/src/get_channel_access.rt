@@ -80,7 +80,9 @@ impl GetChannelAccess {
         let [number, kind] = *request else {
             return Err(Refusal::NotARequest);
         };
-        let channel = Channel::new(number).map_err(|_| Refusal::NotARequest)?;
+        let Ok(channel) = Channel::new(number) else {
+            return Err(Refusal::NotARequest);
+        };
         match kind {
             0x40 => Ok(Self::non_volatile(channel)),
             0x80 => Ok(Self::volatile(channel)),

@@ -46,7 +46,9 @@ impl GetChannelInfo {
         let [number] = *request else {
             return Err(Refusal::NotARequest);
         };
-        let channel = Channel::new(number).map_err(|_| Refusal::NotARequest)?;
+        let Ok(channel) = Channel::new(number) else {
+            return Err(Refusal::NotARequest);
+        };
         Ok(Self::new(channel))
     }
 }
@@ -81,6 +83,7 @@ impl ChannelInfo {
         if response.len() < 9 {
             return Err(Refusal::NotEnoughData);
         }
+        // By map_err: with let .. else a call from C takes half as long again (DECISIONS 130).
         let channel = Channel::new(bits(response[0], 0, 4)).map_err(|_| Refusal::NotEnoughData)?;
         let sessions = response[3];
         Ok(ChannelInfo {

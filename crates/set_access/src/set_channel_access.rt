@@ -152,10 +152,18 @@ impl SetChannelAccess {
         if bits(limit, 4, 2) != 0 {
             return Err(Refusal::NotARequest);
         }
-        let channel = Channel::new(number).map_err(|_| Refusal::NotARequest)?;
-        let mode_pair = AccessPair::of(mode).map_err(|_| Refusal::NotARequest)?;
-        let limit_pair = AccessPair::of(limit).map_err(|_| Refusal::NotARequest)?;
-        let access = ChannelAccess::parse(&[mode, limit]).map_err(|_| Refusal::NotARequest)?;
+        let Ok(channel) = Channel::new(number) else {
+            return Err(Refusal::NotARequest);
+        };
+        let Ok(mode_pair) = AccessPair::of(mode) else {
+            return Err(Refusal::NotARequest);
+        };
+        let Ok(limit_pair) = AccessPair::of(limit) else {
+            return Err(Refusal::NotARequest);
+        };
+        let Ok(access) = ChannelAccess::parse(&[mode, limit]) else {
+            return Err(Refusal::NotARequest);
+        };
         Ok(Self {
             channel,
             mode_pair,
